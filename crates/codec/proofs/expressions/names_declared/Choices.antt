@@ -1,0 +1,12 @@
+use mathlib.Core.Path.{_≡_}
+use lib.ListN.{length}
+use Rattle.codec.specs.Expressions.{decode}
+use Rattle.codec.specs.Sound.{declared}
+use Rattle.codec.specs.Shapes.{head-of}
+use Rattle.codec.proofs.expressions.names_declared.Given as given
+
+abbrev pub Inv-loop-rest : given.InvT-loop-rest
+Inv-loop-rest l = declared (head-of (l .head)) (decode 0 (l .rest) .ops) ≡ declared (head-of (l .head)) (decode 0 (l .code) .ops)
+
+abbrev pub μ-loop-rest : given.MeasureT-loop-rest
+μ-loop-rest l = length (l .rest)

@@ -1,0 +1,9 @@
+pub mod Tables
+pub mod Expressions
+pub mod Lines
+pub mod Frames
+pub mod Sound
+pub mod Writable
+pub mod Slots
+pub mod Operations
+pub mod Shapes

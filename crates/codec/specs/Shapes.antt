@@ -1,0 +1,44 @@
+-- A frame of the code as the definition's, and the frame of bytes by their kind and length.
+use mathlib.Core.Bool.{Bool, true, _&&_, cond}
+use mathlib.Core.List.{List}
+use mathlib.Core.Option.{Option as Perhaps, none, some}
+use Prim.Native.Nat.{ℕ, _+_, _*_, _-_}
+use lib.Dec.{eqb, leb}
+use lib.ListN.{length, getD, drop}
+use Rattle.codec.specs.Expressions.{Expr, decode}
+use Rattle.codec.specs.Frames.{Read, plain, header-of}
+use Rattle.codec.specs.Frames as M
+use Rattle.codec.specs.Frames.Frame.{header, track, channel, thread, thread-end, skip, assign, put, if, else, end-if, while, end-while, with, end-with, last}
+use Rattle.codec.specs.declared.frames.Head.{Head}
+use Rattle.codec.specs.declared.frames.Frame.{Frame}
+use Rattle.codec.specs.declared.frames.Frame.the-variants.{Header, Track, Channel, Thread, ThreadEnd, Skip, Assign, Put, If, Else, EndIf, While, EndWhile, With, EndWith, Last}
+
+abbrev pub fitting : ℕ → Bool
+fitting n = leb 1 n && leb n 48
+
+abbrev pub head-of : Head → M.Head
+head-of h = record { version = h .version; kind = h .kind; threads = h .threads; variables = h .variables; tracks = h .tracks; channels = h .channels; locks = h .locks }
+
+abbrev pub whole : M.Frame → Read
+whole f = record { frame = f; whole = true }
+
+abbrev pub decoded : (Expr → M.Frame) → List ℕ → Read
+decoded f bs = record { frame = f (decode 0 bs .ops); whole = decode 0 bs .whole }
+
+abbrev pub read-of : Frame → Read
+read-of (Header h) = whole (header (head-of h))
+read-of (Track n l c) = whole (track n l c)
+read-of (Channel n l c) = whole (channel n l c)
+read-of (Thread n) = whole (thread n)
+read-of ThreadEnd = whole thread-end
+read-of Skip = whole skip
+read-of (Assign v e) = decoded (assign v) (e .now)
+read-of (Put h e) = decoded (put h) (e .now)
+read-of (If e) = decoded if (e .now)
+read-of Else = whole else
+read-of EndIf = whole end-if
+read-of (While e) = decoded while (e .now)
+read-of EndWhile = whole end-while
+read-of (With m e) = decoded (with m) (e .now)
+read-of EndWith = whole end-with
+read-of (Last n) = whole (last n)

@@ -1,0 +1,23 @@
+use mathlib.Core.Path.{_≡_, refl, ap, _∙_}
+use Prim.Native.Nat.{_≤_}
+use native.Mathlib.Omega.{arith}
+use lib.ListN.{length, replicate, length-drop, length-take}
+use borrow.Author.Needs.{needs}
+use Rattle.script.proofs.Holding.{read-ok}
+use Rattle.script.proofs.Promising.{reads}
+use Rattle.script.proofs.read.Needs as need
+
+pub returns-in-Ok : need.returns-in-Ok
+returns-in-Ok g c =
+    let w = c .in-Ok .ensures tt in
+    let few = w .few in
+    let same : length (c .fill .last .slab) ≡ length (c .args .slab .now) = search needs in
+    reads (g .K·Lattice .kind) (g .K·Lattice .order) (c .args .lines .now) (c .args .slab .now) _ _ (read-ok (g .K·Lattice .kind) (g .K·Lattice .order) (c .args .lines .now) (c .args .slab .now) (c .fill .last .slab) _ (c .in-Ok .state) _ (c .if-slab-lt26112 .left) same w
+    (c .fill-in-Ok .ensures .after (λ y e. e) ∙ ap (λ n. replicate n 0) (simp (length-take, length-drop) (omega arith)))
+    (c .declared-by .ensures))
+
+pub returns-in-Err : need.returns-in-Err
+returns-in-Err g c = reads (g .K·Lattice .kind) (g .K·Lattice .order) (c .args .lines .now) (c .args .slab .now) _ _ (search needs)
+
+pub returns-then-slab-lt26112 : need.returns-then-slab-lt26112
+returns-then-slab-lt26112 g c = reads (g .K·Lattice .kind) (g .K·Lattice .order) (c .args .lines .now) (c .args .slab .now) _ _ (search needs)

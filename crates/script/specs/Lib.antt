@@ -1,0 +1,13 @@
+pub mod Code
+pub mod Format
+pub mod Trees
+pub mod Text
+pub mod Grown
+pub mod Findings
+pub mod Slabs
+pub mod Refusals
+pub mod Stages
+pub mod Takings
+pub mod Nexts
+pub mod Writings
+pub mod Promises

@@ -1,0 +1,47 @@
+// Writing the frames of a slab as lines.
+ghost use mathlib.Core.Path.{_≡_};
+ghost use Prim.Native.Nat.{_+_, _≤_, _<_};
+ghost use lib.ListN.{length};
+ghost use Rattle.std.specs.Options.{Cases};
+ghost use Rattle.script.specs.Writings.{Put-line, Puts, line-of};
+use crate::finding::front_of;
+use codec::digits::digits_of;
+
+// Writes bytes as a line from place n on, and answers the place behind it; None where there is no room.
+fn put_line(bytes: &[u8], out: &mut [u8], n: usize) -> Option<usize>
+    requires short { ⌜ length (now bytes) ≤ 51 ⌝ }
+    requires within { ⌜ n ≤ length (now out) ⌝ }
+    ensures { λ r. ⌜ Put-line (now (bytes .entry)) (now (out .entry)) (now (out .exit)) n r ⌝ }
+{
+    if out.len() - n < 2 * bytes.len() + 1 {
+        return None;
+    }
+    let mut at = n;
+    for b in bytes {
+        let (high, low) = digits_of(*b);
+        out[at] = high;
+        out[at + 1] = low;
+        at += 2;
+    }
+    out[at] = b'\n';
+    Some(at + 1)
+}
+
+// Writes the frames in the first slots of a slab as lines, and answers how many bytes they are.
+pub(crate) fn put_frames(slab: &[u8], frames: u16, out: &mut [u8]) -> Option<usize>
+    requires room { ⌜ 26112 ≤ length (now slab) ⌝ }
+    requires few { ⌜ frames ≤ 512 ⌝ }
+    ensures { λ r. ⌜ Puts (now (slab .entry)) frames (now (out .entry)) (now (out .exit)) r ⌝ }
+{
+    let mut n = 0;
+    for i in 0..frames {
+        let at = i as usize * 51;
+        match put_line(front_of(&slab[at..at + 51]), out, n) {
+            Some(m) => {
+                n = m;
+            }
+            None => return None,
+        }
+    }
+    Some(n)
+}
