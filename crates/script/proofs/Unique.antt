@@ -37,7 +37,7 @@ ahead c g = with-code g (then c (g .code)) (g .endings)
 ahead-closing : (c : Code) (g : Grown) → g .code ≡ done → ahead c g ≡ with-code g c (g .endings)
 ahead-closing c g e = ap (λ (d : Code). with-code g d (g .endings)) (ap (then c) e ∙ then-done c)
 
-grown-flatten : (c : Code) (r : List Frame) → grown (flatten c r) ≡ ahead c (grown r)
+pub grown-flatten : (c : Code) (r : List Frame) → grown (flatten c r) ≡ ahead c (grown r)
 grown-flatten done r = refl
 grown-flatten (skip c) r = ap (grow Frame.skip) (grown-flatten c r)
 grown-flatten (assign x e c) r = ap (grow (Frame.assign x e)) (grown-flatten c r)

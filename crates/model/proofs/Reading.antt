@@ -1,0 +1,5 @@
+pub mod Beginning
+pub mod Skipping
+pub mod Standing
+pub mod Unique
+pub mod Within

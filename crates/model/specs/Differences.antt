@@ -1,0 +1,49 @@
+-- Where the machine bars what the automaton would let through to its end: closed ifs that are uneven and yet do not stop.
+use mathlib.Core.Path.{_≡_}
+use mathlib.Core.Bool.{Bool, true, false}
+use mathlib.Core.List.{[], _∷_}
+use lib.IntN.{pos}
+use Rattle.codec.specs.Expressions.{Expr}
+use Rattle.script.specs.Code.{Code, Script}
+use Rattle.codec.specs.Expressions.Op.{constant, variable, sample}
+use Rattle.script.specs.Code.Code.{done, branch, loop, lock}
+use Rattle.model.specs.Machine.{status}
+use Rattle.model.specs.Machine.Status.{barred}
+use Rattle.model.specs.Calls.{begin}
+use Rattle.model.specs.Automaton.Input.{at-branch, at-merge}
+use Rattle.model.specs.Follows.{two, first}
+use Rattle.model.specs.Together.{hears, is-some}
+
+-- One variable, one closed track, one open channel, one lock, one thread.
+abbrev pub alone : Code → Script
+alone c = record { kind = 1; locks = 0; variables = 1; track-levels = 1 ∷ []; track-sizes = 1 ∷ []; channel-levels = 0 ∷ []; channel-sizes = 1 ∷ []; codes = c ∷ [] }
+
+-- The closed track's first sample, which is 0 until it is fed.
+abbrev pub secret : Expr
+secret = constant (pos 0) ∷ sample 0 ∷ []
+
+-- A closed if of which one way is c and the other empty: the machine bars it; the automaton lets the empty way on, and to its end or not.
+pub record Treated (c : Code) (at-its-end : Bool) : Type 0 where
+  pub here : status two (alone (branch secret c done done)) (begin (alone (branch secret c done done))) 0 ≡ barred
+  pub begins : is-some (hears (first (alone (branch secret c done done))) 0 (at-branch 0 secret done c ∷ [])) ≡ true
+  pub ends : is-some (hears (first (alone (branch secret c done done))) 0 (at-branch 0 secret done c ∷ at-merge done c ∷ [])) ≡ at-its-end
+
+abbrev pub while-nought : Code
+while-nought = loop (constant (pos 0) ∷ []) done done
+
+abbrev pub while-x : Code
+while-x = loop (variable 0 ∷ []) done done
+
+abbrev pub with-one : Code
+with-one = lock 1 (constant (pos 1) ∷ []) while-x done
+
+abbrev pub with-x : Code
+with-x = lock 1 (variable 0 ∷ []) done done
+
+-- The departure as it is listed: the automaton stops at the end what the machine bars at the start.
+-- And two that it does not list, which the automaton never stops: a loop whose condition is literal nought, and whatever is uneven inside a with of literal one.
+pub record Differs : Type 0 where
+  pub loops : Treated while-x false
+  pub waits : Treated with-x false
+  pub nought : Treated while-nought true
+  pub inside : Treated with-one true

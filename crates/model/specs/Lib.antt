@@ -1,0 +1,15 @@
+pub mod Level
+pub mod Code
+pub mod Machine
+pub mod Calls
+pub mod Secrecy
+pub mod Typing
+pub mod Places
+pub mod Automaton
+pub mod Follows
+pub mod Together
+pub mod Bottoms
+pub mod Table
+pub mod Runs
+pub mod Differences
+pub mod Traces

@@ -1,0 +1,172 @@
+-- The automaton runs beside the machine from its own start state, told by the published semantics what each turn does; and the machine gives its verdicts.
+use Prim.Native.Nat.{ℕ, zero, suc}
+use mathlib.Core.Path.{_≡_}
+use mathlib.Core.Bool.{Bool, true, false, _&&_, _||_, not, cond}
+use mathlib.Core.List.{List, [], _∷_, _++_}
+use mathlib.Core.Option.{Option, none, some}
+use lib.IntN.{ℤ}
+use lib.Dec.{T, ltb}
+use lib.ListN.{getD}
+use Rattle.codec.specs.Expressions.{Expr}
+use Rattle.script.specs.Code.{Code, Script}
+use Rattle.model.specs.Code.{even}
+use Rattle.codec.specs.Expressions.Op.{constant, variable, sample, held, binary, unary}
+use Rattle.script.specs.Code.Code.{done, skip, assign, put, branch, loop, lock}
+use Rattle.model.specs.Machine.{Open, Pace, ended, State, Status, is-zero, value-of, status-at, status, is-ready, is-finished, lag, at-code, set-thread, step-at, take-turn}
+use Rattle.model.specs.Machine.Open.{in-branch, in-loop, in-lock}
+use Rattle.model.specs.Machine.Pace.{running, idling}
+use Rattle.model.specs.Machine.Status.{ready, finished, waiting, barred}
+use Rattle.model.specs.Calls.{begin, set-track}
+use Rattle.model.specs.Automaton.{Q, Pool, Input, Output, apart, all-bottom, and-then, carries, react, extract, update}
+use Rattle.model.specs.Automaton.Input.{at-branch, at-merge, at-sync, at-skip, at-assign, at-output}
+use Rattle.model.specs.Follows.{two, all-open, first, others, entered, Reached}
+
+-- Every expression reads declared variables, of which there are n.
+abbrev pub reads : ℕ → Expr → Bool
+reads n [] = true
+reads n (constant z ∷ e) = reads n e
+reads n (variable x ∷ e) = ltb x n && reads n e
+reads n (sample t ∷ e) = reads n e
+reads n (held t ∷ e) = reads n e
+reads n (binary b ∷ e) = reads n e
+reads n (unary u ∷ e) = reads n e
+
+abbrev pub declared : ℕ → Code → Bool
+declared n done = true
+declared n (skip c) = declared n c
+declared n (assign x e c) = reads n e && declared n c
+declared n (put h e c) = reads n e && declared n c
+declared n (branch e p q c) = (reads n e && declared n p) && (declared n q && declared n c)
+declared n (loop e b c) = reads n e && (declared n b && declared n c)
+declared n (lock m e b c) = reads n e && (declared n b && declared n c)
+
+abbrev pub all-declared : ℕ → List Code → Bool
+all-declared n [] = true
+all-declared n (c ∷ cs) = declared n c && all-declared n cs
+
+-- What the automaton is told
+
+-- The end of a branch: nothing while it idles, then the merge.
+abbrev pub ending : ℕ → Code → Code → List Input
+ending zero pe pu = at-merge pe pu ∷ []
+ending (suc left) pe pu = []
+
+-- A test of a loop: a branch, and its merge at once where the condition is false.
+abbrev pub testing : Bool → ℕ → Expr → Code → List Input
+testing false m e b = at-branch m e (and-then b (loop e b done)) done ∷ []
+testing true m e b = at-branch m e done (and-then b (loop e b done)) ∷ at-merge done (and-then b (loop e b done)) ∷ []
+
+module _ (sc : Script) (s : State) (i : ℕ) where
+  -- The inputs of a thread's next turn, by its code, pace and blocks. An idle turn, and the end of a with, tell it nothing.
+  -- The end of a loop's body is the merge of that turn of the loop: the publication leaves it until the loop's end (Bottoms says that no answer turns on this).
+  abbrev pub told : Code → Pace → List Open → List Input
+  told c (idling n) [] = []
+  told c (idling n) (in-branch l way p q next ∷ os) = ending n (cond way p q) (cond way q p)
+  told c (idling n) (in-loop e b next ∷ os) = []
+  told c (idling n) (in-lock m next ∷ os) = []
+  told done running [] = []
+  told done running (in-branch l way p q next ∷ os) = ending (lag way p q) (cond way p q) (cond way q p)
+  told done running (in-loop e b next ∷ os) = at-merge (and-then b (loop e b done)) done ∷ []
+  told done running (in-lock m next ∷ os) = []
+  told (skip c) running os = at-skip ∷ []
+  told (assign x e c) running os = at-assign x e ∷ []
+  told (put h e c) running os = at-output e ∷ []
+  told (branch e p q c) running os =
+      let way = not (is-zero (value-of two sc s e)) in
+      at-branch (others i (s .threads)) e (cond way p q) (cond way q p) ∷ []
+  told (loop e b c) running os = testing (is-zero (value-of two sc s e)) (others i (s .threads)) e b
+  told (lock m e b c) running os = at-sync m e ∷ []
+
+  -- What the published semantics itself asks of a turn: of a with, that its value is true and that no other thread owns its locks.
+  abbrev pub permits : Code → Pace → Bool
+  permits c (idling n) = true
+  permits done running = true
+  permits (skip c) running = true
+  permits (assign x e c) running = true
+  permits (put h e c) running = true
+  permits (branch e p q c) running = true
+  permits (loop e b c) running = true
+  permits (lock m e b c) running = not (is-zero (value-of two sc s e)) && apart m (others i (s .threads))
+
+-- What the automaton answers
+
+abbrev pub note : Output → Option (List Output × Pool) → Option (List Output × Pool)
+note o none = none
+note o (some r) = some (o ∷ r .0, r .1)
+
+abbrev pub go-on : Pool → ℕ → Option (Output × Q) → (Pool → Option (List Output × Pool)) → Option (List Output × Pool)
+go-on p i none rest = none
+go-on p i (some r) rest = note (r .0) (rest (update p i (r .1)))
+
+-- Its answers to inputs of thread i, in order, and its next state; none where it holds one back.
+abbrev pub hears : Pool → ℕ → List Input → Option (List Output × Pool)
+hears p i [] = some ([], p)
+hears p i (x ∷ xs) = go-on p i (react (extract p i) x) (λ r. hears r i xs)
+
+abbrev pub is-some : Option (List Output × Pool) → Bool
+is-some none = false
+is-some (some r) = true
+
+-- The departures: an uneven if that would be closed, and a loop whose condition is.
+abbrev pub departs : Q → Code → Pace → Bool
+departs q c (idling n) = false
+departs q done running = false
+departs q (skip c) running = false
+departs q (assign x e c) running = false
+departs q (put h e c) running = false
+departs q (branch e p t c) running = not (even p && even t) && (carries q e || not (all-bottom (q .w)))
+departs q (loop e b c) running = carries q e
+departs q (lock m e b c) running = false
+
+-- A with whose expression carries variety, which no rule of the automaton lets on.
+abbrev pub never-syncs : Q → Code → Pace → Bool
+never-syncs q c (idling n) = false
+never-syncs q done running = false
+never-syncs q (skip c) running = false
+never-syncs q (assign x e c) running = false
+never-syncs q (put h e c) running = false
+never-syncs q (branch e p t c) running = false
+never-syncs q (loop e b c) running = false
+never-syncs q (lock m e b c) running = carries q e
+
+-- The verdicts
+
+abbrev pub is-barred : Status → Bool
+is-barred ready = false
+is-barred finished = false
+is-barred waiting = false
+is-barred barred = true
+
+module _ (sc : Script) (s : State) (p : Pool) (i : ℕ) where
+  -- What a put enters is what the automaton answers.
+  abbrev pub Enters : Code → Pace → List Open → Type 0
+  Enters c (idling n) os = Unit {0}
+  Enters done running os = Unit {0}
+  Enters (skip c) running os = Unit {0}
+  Enters (assign x e c) running os = Unit {0}
+  Enters (put h e c) running os = (o : Output) × (hears p i (at-output e ∷ []) ≡ some (o ∷ [], update p i (extract p i))) × (step-at two sc s i (put h e c) running os ≡ set-thread (entered sc s i h e o) i (at-code c os))
+  Enters (branch e t u c) running os = Unit {0}
+  Enters (loop e b c) running os = Unit {0}
+  Enters (lock m e b c) running os = Unit {0}
+
+  -- A thread that is not finished is ready exactly if it is at no departure, the published semantics permits its turn and the automaton does not hold it back.
+  -- It is barred exactly at a departure and at a with that carries variety; otherwise it waits.
+  pub record Verdict (c : Code) (pace : Pace) (os : List Open) : Type 0 where
+    pub goes : is-finished (status-at two sc s i c pace os) ≡ false → is-ready (status-at two sc s i c pace os) ≡ not (departs (extract p i) c pace) && (permits sc s i c pace && is-some (hears p i (told sc s i c pace os)))
+    pub bars : is-barred (status-at two sc s i c pace os) ≡ departs (extract p i) c pace || never-syncs (extract p i) c pace
+    pub enters : Enters c pace os
+
+-- The machine's states and the automaton's, side by side from their beginnings, through any turns of ready threads, rests and feeds.
+pub data Together (sc : Script) : State → Pool → Type 0 where
+  start : Together sc (begin sc) (first sc)
+  turn : {s : State} {p : Pool} (i : ℕ) (outs : List Output) (r : Pool) → Together sc s p → T (is-ready (status two sc s i)) →
+      (let t = getD (s .threads) i ended in hears p i (told sc s i (t .code) (t .pace) (t .inside))) ≡ some (outs, r) → Together sc (take-turn two sc s (some i)) r
+  rest : {s : State} {p : Pool} → Together sc s p → Together sc (take-turn two sc s none) p
+  fed : {s : State} {p : Pool} (t : ℕ) (z : ℤ) → Together sc s p → Together sc (set-track s t (getD (s .tracks) t [] ++ (z ∷ []))) p
+
+-- Of every script with open channels and declared variables: whatever state it reaches, the automaton has come along, and wherever the two stand together the machine's verdicts are the automaton's.
+abbrev pub Gives-its-verdicts : Type 0
+Gives-its-verdicts =
+    (sc : Script) → T (all-open (sc .channel-levels)) → T (all-declared (sc .variables) (sc .codes)) →
+    ((s : State) → Reached sc s → (p : Pool) × Together sc s p) ×
+    ((s : State) (p : Pool) → Together sc s p → (i : ℕ) → let t = getD (s .threads) i ended in Verdict sc s p i (t .code) (t .pace) (t .inside))

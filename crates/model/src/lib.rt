@@ -1,0 +1,86 @@
+// The model of the monitor and its theorems. Each function's contract is a theorem: without its proof the crate is refused.
+ghost use mathlib.Core.Path.{_≡_};
+ghost use mathlib.Core.Bool.{Bool, false};
+ghost use mathlib.Core.List.{List};
+ghost use mathlib.Core.Option.{Option as Perhaps, some};
+ghost use Prim.Native.Nat.{ℕ};
+ghost use lib.Dec.{T as Holds};
+ghost use lib.ListN.{getD};
+ghost use Rattle.model.specs.Secrecy.{Every-run-is-secret};
+ghost use Rattle.model.specs.Typing.{Every-typed-run-is-unaltered};
+ghost use Rattle.lattice.specs.Levels.{Lawful};
+ghost use Rattle.model.specs.Follows.{two, Follows};
+ghost use Rattle.model.specs.Together.{Gives-its-verdicts};
+ghost use Rattle.model.specs.Bottoms.{Bottoms-are-not-read};
+ghost use Rattle.model.specs.Table.{As-shown};
+ghost use Rattle.model.specs.Runs.{Calls-reach};
+ghost use Rattle.model.specs.Differences.{Differs};
+// A giver of turns: its answer and next state from its state and the ready set, and the law that it answers a ready thread.
+pub trait Giver {
+    ghost meaning: { Self → List Bool → Perhaps ℕ × Self };
+
+    law picks_ready: { (g : Self) (rs : List Bool) (i : ℕ) → meaning g rs .0 ≡ some i → Holds (getD rs i false) };
+}
+
+// What a reader finds does not depend on what may not flow to that reader: every kind of levels, every script, this giver.
+pub fn secrecy_stands<G: Giver>() -> u8
+    ensures { λ _. ⌜ Every-run-is-secret {G = G} (G·Giver .meaning) ⌝ }
+{
+    0
+}
+
+// A script that passes inspection gets the answers that it would get with every level open.
+pub fn transparency_stands<G: Giver>() -> u8
+    ensures { λ _. ⌜ Every-typed-run-is-unaltered {G = G} (G·Giver .meaning) ⌝ }
+{
+    0
+}
+
+// With two levels and every channel open, the verdicts are those of the published automaton, but for the departures.
+pub fn follows_the_automaton() -> u8
+    ensures { λ _. ⌜ Follows ⌝ }
+{
+    0
+}
+
+// The automaton runs beside the machine from its own start state, and the machine gives its verdicts, but for the departures.
+pub fn gives_its_verdicts() -> u8
+    ensures { λ _. ⌜ Gives-its-verdicts ⌝ }
+{
+    0
+}
+
+// Beyond the departures that are listed: uneven closed ifs that the automaton never stops, and the machine bars.
+pub fn bars_more_than_it_stops() -> u8
+    ensures { λ _. ⌜ Differs ⌝ }
+{
+    0
+}
+
+// What calls lead to, whatever obedient giver gives the turns, is what turns of ready threads, rests and feeds lead to.
+pub fn calls_reach<V: Giver>(_giver: &V) -> u8
+    ensures { λ _. ⌜ Calls-reach (V·Giver .meaning) ⌝ }
+{
+    0
+}
+
+// The published example of the automaton's states, step by step, as the automaton here gives it.
+pub fn gives_table_one() -> u8
+    ensures { λ _. ⌜ As-shown ⌝ }
+{
+    0
+}
+
+// Open and closed are a kind of levels.
+pub fn two_levels_are_lawful() -> u8
+    ensures { λ _. ⌜ Lawful two ⌝ }
+{
+    0
+}
+
+// The automaton never reads how many ⊥ a word has.
+pub fn bottoms_are_not_read() -> u8
+    ensures { λ _. ⌜ Bottoms-are-not-read ⌝ }
+{
+    0
+}
