@@ -6,9 +6,11 @@ use Prim.Native.Nat.{ℕ}
 use lib.Dec.{T}
 use Rattle.lattice.specs.Levels.{Levels, Lawful}
 use Rattle.script.specs.Code.{Script}
-use Rattle.model.specs.Machine.{State, Meaning, Giver}
+use Rattle.model.specs.Machine.{State}
+use Rattle.model.specs.Schedulers.{Meaning, Obedient}
 use Rattle.model.specs.Calls.{Call, Answer, begin, perform}
-use Rattle.model.specs.Secrecy.{Levelled, Secret, left-out, kept, kept-answers}
+use Rattle.model.specs.Levels.{Levelled}
+use Rattle.model.specs.Secrecy.{Secret, left-out, kept, kept-answers}
 use Rattle.model.specs.Traces.{Asked, Trace, calls-of, answers-of, kept-asked, Blind}
 use Rattle.model.specs.Traces.Trace.{stop, link}
 use Rattle.model.proofs.Confidential.Secret.{secret}
@@ -22,30 +24,30 @@ kept-calls seen sc (a ∷ xs) = by (left-out seen sc (a .call)) (kept-calls seen
     by true e = e
     by false e = ap (λ cs. a .call ∷ cs) e
 
-module _ (k : Levels) (sc : Script) {G : Type 0} (give : Meaning G) {Memory : Type 0} (Did : Memory → Call → Answer → Memory → Type 0) (Views : Memory → State → G → Type 0) where
+module _ (k : Levels) (sc : Script) {G : Type 0} (schedule : Meaning G) {Memory : Type 0} (Did : Memory → Call → Answer → Memory → Type 0) (Views : Memory → State → G → Type 0) where
   -- A call's contract, where the memory views a state: the answer and the memory after are the model's.
   pub Refines : Type 0
   Refines =
       (m : Memory) (s : State) (g : G) (c : Call) (a : Answer) (n : Memory) → Views m s g → Did m c a n →
-      (a ≡ perform k sc give c s g .0) × Views n (perform k sc give c s g .1) (perform k sc give c s g .2)
+      (a ≡ perform k sc schedule c s g .0) × Views n (perform k sc schedule c s g .1) (perform k sc schedule c s g .2)
 
   module _ (seen : ℕ → Bool) (refines : Refines) where
-    trace-answers : (xs : List Asked) (m : Memory) (s : State) (g : G) → Views m s g → Trace Did m xs → answers-of (kept-asked seen sc xs) ≡ kept-answers k sc give seen (calls-of xs) s g
+    trace-answers : (xs : List Asked) (m : Memory) (s : State) (g : G) → Views m s g → Trace Did m xs → answers-of (kept-asked seen sc xs) ≡ kept-answers k sc schedule seen (calls-of xs) s g
     unfolding Refines
     trace-answers [] m s g v t = refl
     trace-answers (a ∷ xs) m s g v (link {n = n} d t) =
         let r = refines m s g (a .call) (a .answer) n v d in
-        by (left-out seen sc (a .call)) (a .answer) (r .0) (trace-answers xs n (perform k sc give (a .call) s g .1) (perform k sc give (a .call) s g .2) (r .1) t)
+        by (left-out seen sc (a .call)) (a .answer) (r .0) (trace-answers xs n (perform k sc schedule (a .call) s g .1) (perform k sc schedule (a .call) s g .2) (r .1) t)
       where
-        by : (b : Bool) (x : Answer) → x ≡ perform k sc give (a .call) s g .0 →
-            answers-of (kept-asked seen sc xs) ≡ kept-answers k sc give seen (calls-of xs) (perform k sc give (a .call) s g .1) (perform k sc give (a .call) s g .2) →
+        by : (b : Bool) (x : Answer) → x ≡ perform k sc schedule (a .call) s g .0 →
+            answers-of (kept-asked seen sc xs) ≡ kept-answers k sc schedule seen (calls-of xs) (perform k sc schedule (a .call) s g .1) (perform k sc schedule (a .call) s g .2) →
             answers-of (cond b (kept-asked seen sc xs) (record { call = a .call; answer = x } ∷ kept-asked seen sc xs)) ≡
-            cond b (kept-answers k sc give seen (calls-of xs) (perform k sc give (a .call) s g .1) (perform k sc give (a .call) s g .2))
-            (perform k sc give (a .call) s g .0 ∷ kept-answers k sc give seen (calls-of xs) (perform k sc give (a .call) s g .1) (perform k sc give (a .call) s g .2))
+            cond b (kept-answers k sc schedule seen (calls-of xs) (perform k sc schedule (a .call) s g .1) (perform k sc schedule (a .call) s g .2))
+            (perform k sc schedule (a .call) s g .0 ∷ kept-answers k sc schedule seen (calls-of xs) (perform k sc schedule (a .call) s g .1) (perform k sc schedule (a .call) s g .2))
         by true x e later = later
         by false x e later = mathlib.Core.Path.ap₂ (λ y ys. y ∷ ys) e later
 
-  pub blind : Lawful k → Levelled k sc → Giver give → Refines → (g : G) (m n : Memory) → Views m (begin sc) g → Views n (begin sc) g → Blind k sc Did m n
+  pub blind : Lawful k → Levelled k sc → Obedient schedule → Refines → (g : G) (m n : Memory) → Views m (begin sc) g → Views n (begin sc) g → Blind k sc Did m n
   blind law lev giver refines g m n vm vn reader h xs ys t u alike =
       let seen : ℕ → Bool = λ l. k .flows l reader in
       trace-answers seen refines xs m (begin sc) g vm t

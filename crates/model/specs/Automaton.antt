@@ -8,7 +8,7 @@ use lib.Dec.{eqb}
 use lib.Bits.{bitOr, bitAnd, bitXor}
 use Rattle.codec.specs.Expressions.{Expr}
 use Rattle.script.specs.Code.{Code}
-use Rattle.model.specs.Code.{is-literal-one, assigns, needs}
+use Rattle.model.specs.Stretches.{is-literal-one, assigns, needs}
 use Rattle.codec.specs.Expressions.Op.{constant, variable, sample, held, binary, unary}
 use Rattle.script.specs.Code.Code.{done, skip, assign, put, branch, loop, lock}
 

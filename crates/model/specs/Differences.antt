@@ -11,7 +11,8 @@ use Rattle.model.specs.Machine.{status}
 use Rattle.model.specs.Machine.Status.{barred}
 use Rattle.model.specs.Calls.{begin}
 use Rattle.model.specs.Automaton.Input.{at-branch, at-merge}
-use Rattle.model.specs.Follows.{two, first}
+use Rattle.lattice.specs.Orders.{two-point}
+use Rattle.model.specs.Follows.{first}
 use Rattle.model.specs.Together.{hears, is-some}
 
 -- One variable, one closed track, one open channel, one lock, one thread.
@@ -24,7 +25,7 @@ secret = constant (pos 0) ∷ sample 0 ∷ []
 
 -- A closed if of which one way is c and the other empty: the machine bars it; the automaton lets the empty way on, and to its end or not.
 pub record Treated (c : Code) (at-its-end : Bool) : Type 0 where
-  pub here : status two (alone (branch secret c done done)) (begin (alone (branch secret c done done))) 0 ≡ barred
+  pub here : status two-point (alone (branch secret c done done)) (begin (alone (branch secret c done done))) 0 ≡ barred
   pub begins : is-some (hears (first (alone (branch secret c done done))) 0 (at-branch 0 secret done c ∷ [])) ≡ true
   pub ends : is-some (hears (first (alone (branch secret c done done))) 0 (at-branch 0 secret done c ∷ at-merge done c ∷ [])) ≡ at-its-end
 

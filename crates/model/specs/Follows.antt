@@ -10,33 +10,28 @@ use lib.Dec.{T, leb, ltb}
 use lib.ListN.{getD}
 use lib.Bits.{bitOr}
 use Rattle.lattice.specs.Levels.{Levels}
-use Rattle.model.specs.Level.{is-open}
+use Rattle.model.specs.Levels.{is-open}
 use Rattle.codec.specs.Expressions.{Expr}
 use Rattle.script.specs.Code.{Code, Script}
-use Rattle.model.specs.Code.{assigns, even}
+use Rattle.model.specs.Stretches.{assigns, fixed-time}
 use Rattle.script.specs.Code.Code.{done, skip, assign, put, branch, loop, lock}
-use Rattle.model.specs.Machine.{blank, Open, Pace, Thread, ended, unused, State, Status, place, owned, reserved, is-zero, value-of, status-at, status, is-ready, lag, at-code, add-entry, set-thread, set-channel, step-at, take-turn}
-use Rattle.model.specs.Machine.Open.{in-branch, in-loop, in-lock}
-use Rattle.model.specs.Machine.Pace.{running, idling}
+use Rattle.model.specs.Values.{blank, is-zero}
+use Rattle.model.specs.Threads.{Open, Pace, Thread, ended, context, owned, reserved, at-code}
+use Rattle.model.specs.Machine.{unused, State, Status, value-of, status-at, status, is-ready, lag, add-entry, set-thread, set-channel, step-at, take-turn, set-track, rules}
+use Rattle.model.specs.Threads.Open.{in-branch, in-loop, in-lock}
+use Rattle.model.specs.Threads.Pace.{running, idling}
 use Rattle.model.specs.Machine.Status.{ready, finished, waiting, barred}
-use Rattle.model.specs.Calls.{begin, set-track}
+use Rattle.model.specs.Calls.{begin}
 use Rattle.model.specs.Automaton.{Q, Pool, Input, Output, apart, without, all-bottom, and-then, carries, react, extract, update}
 use Rattle.model.specs.Automaton.Input.{at-branch, at-merge, at-sync, at-skip, at-assign, at-output}
 use Rattle.model.specs.Automaton.Output.{ok, no, default}
-
--- Open and closed.
-abbrev pub two : Levels
-two = record { has = λ l. ltb l 2; flows = leb; join = max }
-
-abbrev pub all-open : List ℕ → Bool
-all-open [] = true
-all-open (l ∷ ls) = is-open l && all-open ls
+use Rattle.lattice.specs.Orders.{two-point}
 
 -- The automaton's state, read off the machine's
 
 -- A closed branch in an open place: the outermost closed one of its thread.
 abbrev pub outermost : ℕ → List Open → Bool
-outermost l os = is-open (place os) && not (is-open l)
+outermost l os = is-open (context os) && not (is-open l)
 
 -- How many outermost closed branches assign x.
 abbrev pub counted : ℕ → List Open → ℕ
@@ -92,13 +87,17 @@ others i ts = without (owned-by ts) (owned (getD ts i ended .inside))
 -- The states that turns of ready threads, rests and feeds lead to.
 pub data Reached (sc : Script) : State → Type 0 where
   start : Reached sc (begin sc)
-  turn : {s : State} (i : ℕ) → Reached sc s → T (is-ready (status two sc s i)) → Reached sc (take-turn two sc s (some i))
-  rest : {s : State} → Reached sc s → Reached sc (take-turn two sc s none)
+  turn : {s : State} (i : ℕ) → Reached sc s → T (is-ready (status two-point sc s i)) → Reached sc (take-turn (rules two-point sc) s (some i))
+  rest : {s : State} → Reached sc s → Reached sc (take-turn (rules two-point sc) s none)
   fed : {s : State} (t : ℕ) (z : ℤ) → Reached sc s → Reached sc (set-track s t (getD (s .tracks) t [] ++ (z ∷ [])))
+
+-- Channel h is open.
+abbrev pub on-open : Script → ℕ → Bool
+on-open sc h = is-open (getD (sc .channel-levels) h 0)
 
 -- What a put enters on the automaton's answer: the value, nothing, or a mark for the default value.
 abbrev pub entered : Script → State → ℕ → ℕ → Expr → Output → State
-entered sc s i h e ok = set-channel s h (add-entry (getD (sc .channel-sizes) h 0) (record { turn = suc (s .turns); thread = i; mark = false; value = value-of two sc s e }) (getD (s .channels) h unused))
+entered sc s i h e ok = set-channel s h (add-entry (getD (sc .channel-sizes) h 0) (record { turn = suc (s .turns); thread = i; mark = false; value = value-of two-point sc s e }) (getD (s .channels) h unused))
 entered sc s i h e no = s
 entered sc s i h e default = set-channel s h (add-entry (getD (sc .channel-sizes) h 0) (record { turn = suc (s .turns); thread = i; mark = true; value = pos 0 }) (getD (s .channels) h unused))
 
@@ -128,6 +127,11 @@ module _ (sc : Script) (s : State) (i : ℕ) where
     pub does : Does (at-output e) says then
     pub enters : then ≡ set-thread (entered sc s i h e says) i after
 
+  -- A put on an open channel enters what the automaton answers. One on a closed channel, which the automaton does not have, leaves its state alone.
+  abbrev pub PutsTo : Bool → ℕ → Expr → Thread → State → Type 0
+  PutsTo true h e after then = Puts h e after then
+  PutsTo false h e after then = Untold then
+
   -- The beginning of a branch. The departure: an uneven closed one is barred. Any other is ready and answered OK, or waits and is held back.
   abbrev pub Begins : Bool → Input → Status → State → Type 0
   Begins true input now then = now ≡ barred
@@ -144,36 +148,36 @@ module _ (sc : Script) (s : State) (i : ℕ) where
   -- The departure: a closed loop is barred.
   abbrev pub Loops : Bool → Expr → Code → Status → State → Type 0
   Loops true e b now then = now ≡ barred
-  Loops false e b now then = (now ≡ ready) × Tests (is-zero (value-of two sc s e)) e b then
+  Loops false e b now then = (now ≡ ready) × Tests (is-zero (value-of two-point sc s e)) e b then
 
   -- A with is ready exactly if the automaton answers OK, its value is true and no other thread owns its locks.
   pub record Syncs (m : ℕ) (e : Expr) (now : Status) (then : State) : Type 0 where
-    pub allows : now ≡ ready → Does (at-sync m e) ok then × (is-zero (value-of two sc s e) ≡ false) × T (apart m (others i (s .threads)))
-    pub allowed : (next : Q) → react asked (at-sync m e) ≡ some (ok, next) → is-zero (value-of two sc s e) ≡ false → T (apart m (others i (s .threads))) → now ≡ ready
+    pub allows : now ≡ ready → Does (at-sync m e) ok then × (is-zero (value-of two-point sc s e) ≡ false) × T (apart m (others i (s .threads)))
+    pub allowed : (next : Q) → react asked (at-sync m e) ≡ some (ok, next) → is-zero (value-of two-point sc s e) ≡ false → T (apart m (others i (s .threads))) → now ≡ ready
 
   -- The machine and the automaton agree on a thread's next turn, by its code, pace and blocks.
   abbrev pub Agrees : Code → Pace → List Open → Type 0
-  Agrees c (idling n) [] = Untold (step-at two sc s i c (idling n) [])
-  Agrees c (idling n) (in-branch l way p q next ∷ os) = Ends (cond way p q) (cond way q p) n (step-at two sc s i c (idling n) (in-branch l way p q next ∷ os))
-  Agrees c (idling n) (in-loop e b next ∷ os) = Untold (step-at two sc s i c (idling n) (in-loop e b next ∷ os))
-  Agrees c (idling n) (in-lock m next ∷ os) = Untold (step-at two sc s i c (idling n) (in-lock m next ∷ os))
-  Agrees done running [] = status-at two sc s i done running [] ≡ finished
-  Agrees done running (in-branch l way p q next ∷ os) = Ends (cond way p q) (cond way q p) (lag way p q) (step-at two sc s i done running (in-branch l way p q next ∷ os))
-  Agrees done running (in-loop e b next ∷ os) = Does (at-merge (and-then b (loop e b done)) done) ok (step-at two sc s i done running (in-loop e b next ∷ os))
-  Agrees done running (in-lock m next ∷ os) = Untold (step-at two sc s i done running (in-lock m next ∷ os))
-  Agrees (skip c) running os = Does at-skip ok (step-at two sc s i (skip c) running os)
-  Agrees (assign x e c) running os = Does (at-assign x e) ok (step-at two sc s i (assign x e c) running os)
-  Agrees (put h e c) running os = Puts h e (at-code c os) (step-at two sc s i (put h e c) running os)
+  Agrees c (idling n) [] = Untold (step-at two-point sc s i c (idling n) [])
+  Agrees c (idling n) (in-branch l way p q next ∷ os) = Ends (cond way p q) (cond way q p) n (step-at two-point sc s i c (idling n) (in-branch l way p q next ∷ os))
+  Agrees c (idling n) (in-loop e b next ∷ os) = Untold (step-at two-point sc s i c (idling n) (in-loop e b next ∷ os))
+  Agrees c (idling n) (in-lock m next ∷ os) = Untold (step-at two-point sc s i c (idling n) (in-lock m next ∷ os))
+  Agrees done running [] = status-at two-point sc s i done running [] ≡ finished
+  Agrees done running (in-branch l way p q next ∷ os) = Ends (cond way p q) (cond way q p) (lag way p q) (step-at two-point sc s i done running (in-branch l way p q next ∷ os))
+  Agrees done running (in-loop e b next ∷ os) = Does (at-merge (and-then b (loop e b done)) done) ok (step-at two-point sc s i done running (in-loop e b next ∷ os))
+  Agrees done running (in-lock m next ∷ os) = Untold (step-at two-point sc s i done running (in-lock m next ∷ os))
+  Agrees (skip c) running os = Does at-skip ok (step-at two-point sc s i (skip c) running os)
+  Agrees (assign x e c) running os = Does (at-assign x e) ok (step-at two-point sc s i (assign x e c) running os)
+  Agrees (put h e c) running os = PutsTo (on-open sc h) h e (at-code c os) (step-at two-point sc s i (put h e c) running os)
   Agrees (branch e p q c) running os =
-      let way = not (is-zero (value-of two sc s e)) in
-      Begins (not (even p && even q) && (carries asked e || not (all-bottom (asked .w)))) (at-branch (others i (s .threads)) e (cond way p q) (cond way q p))
-      (status-at two sc s i (branch e p q c) running os) (step-at two sc s i (branch e p q c) running os)
-  Agrees (loop e b c) running os = Loops (carries asked e) e b (status-at two sc s i (loop e b c) running os) (step-at two sc s i (loop e b c) running os)
-  Agrees (lock m e b c) running os = Syncs m e (status-at two sc s i (lock m e b c) running os) (step-at two sc s i (lock m e b c) running os)
+      let way = not (is-zero (value-of two-point sc s e)) in
+      Begins (not (fixed-time p && fixed-time q) && (carries asked e || not (all-bottom (asked .w)))) (at-branch (others i (s .threads)) e (cond way p q) (cond way q p))
+      (status-at two-point sc s i (branch e p q c) running os) (step-at two-point sc s i (branch e p q c) running os)
+  Agrees (loop e b c) running os = Loops (carries asked e) e b (status-at two-point sc s i (loop e b c) running os) (step-at two-point sc s i (loop e b c) running os)
+  Agrees (lock m e b c) running os = Syncs m e (status-at two-point sc s i (lock m e b c) running os) (step-at two-point sc s i (lock m e b c) running os)
 
--- Every script whose channels are open begins as the automaton does, and every thread of every state that it reaches agrees with it.
+-- Every script begins as the automaton does, and every thread of every state that it reaches agrees with it.
 abbrev pub Follows : Type 0
 Follows =
-    (sc : Script) → T (all-open (sc .channel-levels)) →
+    (sc : Script) →
     Same (sc .variables) (pool sc (begin sc)) (first sc) ×
     ((s : State) → Reached sc s → (i : ℕ) → let t = getD (s .threads) i ended in Agrees sc s i (t .code) (t .pace) (t .inside))

@@ -9,40 +9,22 @@ use lib.Dec.{T, ltb}
 use lib.ListN.{getD}
 use Rattle.codec.specs.Expressions.{Expr}
 use Rattle.script.specs.Code.{Code, Script}
-use Rattle.model.specs.Code.{even}
+use Rattle.model.specs.Stretches.{fixed-time}
 use Rattle.codec.specs.Expressions.Op.{constant, variable, sample, held, binary, unary}
 use Rattle.script.specs.Code.Code.{done, skip, assign, put, branch, loop, lock}
-use Rattle.model.specs.Machine.{Open, Pace, ended, State, Status, is-zero, value-of, status-at, status, is-ready, is-finished, lag, at-code, set-thread, step-at, take-turn}
-use Rattle.model.specs.Machine.Open.{in-branch, in-loop, in-lock}
-use Rattle.model.specs.Machine.Pace.{running, idling}
+use Rattle.model.specs.Threads.{Open, Pace, ended, at-code}
+use Rattle.model.specs.Machine.{State, Status, value-of, status-at, status, is-ready, is-finished, is-barred, lag, set-thread, step-at, take-turn, set-track, rules}
+use Rattle.model.specs.Values.{is-zero}
+use Rattle.model.specs.Threads.Open.{in-branch, in-loop, in-lock}
+use Rattle.model.specs.Threads.Pace.{running, idling}
 use Rattle.model.specs.Machine.Status.{ready, finished, waiting, barred}
-use Rattle.model.specs.Calls.{begin, set-track}
+use Rattle.model.specs.Calls.{begin}
 use Rattle.model.specs.Automaton.{Q, Pool, Input, Output, apart, all-bottom, and-then, carries, react, extract, update}
 use Rattle.model.specs.Automaton.Input.{at-branch, at-merge, at-sync, at-skip, at-assign, at-output}
-use Rattle.model.specs.Follows.{two, all-open, first, others, entered, Reached}
-
--- Every expression reads declared variables, of which there are n.
-abbrev pub reads : ℕ → Expr → Bool
-reads n [] = true
-reads n (constant z ∷ e) = reads n e
-reads n (variable x ∷ e) = ltb x n && reads n e
-reads n (sample t ∷ e) = reads n e
-reads n (held t ∷ e) = reads n e
-reads n (binary b ∷ e) = reads n e
-reads n (unary u ∷ e) = reads n e
-
-abbrev pub declared : ℕ → Code → Bool
-declared n done = true
-declared n (skip c) = declared n c
-declared n (assign x e c) = reads n e && declared n c
-declared n (put h e c) = reads n e && declared n c
-declared n (branch e p q c) = (reads n e && declared n p) && (declared n q && declared n c)
-declared n (loop e b c) = reads n e && (declared n b && declared n c)
-declared n (lock m e b c) = reads n e && (declared n b && declared n c)
-
-abbrev pub all-declared : ℕ → List Code → Bool
-all-declared n [] = true
-all-declared n (c ∷ cs) = declared n c && all-declared n cs
+use Rattle.std.specs.shelf.Lists.{All}
+use Rattle.script.specs.Trees.{Valid, head-of}
+use Rattle.lattice.specs.Orders.{two-point}
+use Rattle.model.specs.Follows.{on-open, first, others, entered, Reached}
 
 -- What the automaton is told
 
@@ -50,6 +32,11 @@ all-declared n (c ∷ cs) = declared n c && all-declared n cs
 abbrev pub ending : ℕ → Code → Code → List Input
 ending zero pe pu = at-merge pe pu ∷ []
 ending (suc left) pe pu = []
+
+-- A put: an output on an open channel, nothing on a closed one.
+abbrev pub putting : Bool → Expr → List Input
+putting true e = at-output e ∷ []
+putting false e = []
 
 -- A test of a loop: a branch, and its merge at once where the condition is false.
 abbrev pub testing : Bool → ℕ → Expr → Code → List Input
@@ -70,11 +57,11 @@ module _ (sc : Script) (s : State) (i : ℕ) where
   told done running (in-lock m next ∷ os) = []
   told (skip c) running os = at-skip ∷ []
   told (assign x e c) running os = at-assign x e ∷ []
-  told (put h e c) running os = at-output e ∷ []
+  told (put h e c) running os = putting (on-open sc h) e
   told (branch e p q c) running os =
-      let way = not (is-zero (value-of two sc s e)) in
+      let way = not (is-zero (value-of two-point sc s e)) in
       at-branch (others i (s .threads)) e (cond way p q) (cond way q p) ∷ []
-  told (loop e b c) running os = testing (is-zero (value-of two sc s e)) (others i (s .threads)) e b
+  told (loop e b c) running os = testing (is-zero (value-of two-point sc s e)) (others i (s .threads)) e b
   told (lock m e b c) running os = at-sync m e ∷ []
 
   -- What the published semantics itself asks of a turn: of a with, that its value is true and that no other thread owns its locks.
@@ -86,7 +73,7 @@ module _ (sc : Script) (s : State) (i : ℕ) where
   permits (put h e c) running = true
   permits (branch e p q c) running = true
   permits (loop e b c) running = true
-  permits (lock m e b c) running = not (is-zero (value-of two sc s e)) && apart m (others i (s .threads))
+  permits (lock m e b c) running = not (is-zero (value-of two-point sc s e)) && apart m (others i (s .threads))
 
 -- What the automaton answers
 
@@ -114,7 +101,7 @@ departs q done running = false
 departs q (skip c) running = false
 departs q (assign x e c) running = false
 departs q (put h e c) running = false
-departs q (branch e p t c) running = not (even p && even t) && (carries q e || not (all-bottom (q .w)))
+departs q (branch e p t c) running = not (fixed-time p && fixed-time t) && (carries q e || not (all-bottom (q .w)))
 departs q (loop e b c) running = carries q e
 departs q (lock m e b c) running = false
 
@@ -131,20 +118,19 @@ never-syncs q (lock m e b c) running = carries q e
 
 -- The verdicts
 
-abbrev pub is-barred : Status → Bool
-is-barred ready = false
-is-barred finished = false
-is-barred waiting = false
-is-barred barred = true
-
 module _ (sc : Script) (s : State) (p : Pool) (i : ℕ) where
-  -- What a put enters is what the automaton answers.
+  -- What a put on an open channel enters is what the automaton answers.
+  abbrev pub EntersTo : Bool → ℕ → Expr → Code → List Open → Type 0
+  EntersTo false h e c os = Unit {0}
+  EntersTo true h e c os = (o : Output) × (hears p i (at-output e ∷ []) ≡ some (o ∷ [], update p i (extract p i))) × (step-at two-point sc s i (put h e c) running os ≡ set-thread (entered sc s i h e o) i (at-code c os))
+
+  -- The same, command by command.
   abbrev pub Enters : Code → Pace → List Open → Type 0
   Enters c (idling n) os = Unit {0}
   Enters done running os = Unit {0}
   Enters (skip c) running os = Unit {0}
   Enters (assign x e c) running os = Unit {0}
-  Enters (put h e c) running os = (o : Output) × (hears p i (at-output e ∷ []) ≡ some (o ∷ [], update p i (extract p i))) × (step-at two sc s i (put h e c) running os ≡ set-thread (entered sc s i h e o) i (at-code c os))
+  Enters (put h e c) running os = EntersTo (on-open sc h) h e c os
   Enters (branch e t u c) running os = Unit {0}
   Enters (loop e b c) running os = Unit {0}
   Enters (lock m e b c) running os = Unit {0}
@@ -152,21 +138,22 @@ module _ (sc : Script) (s : State) (p : Pool) (i : ℕ) where
   -- A thread that is not finished is ready exactly if it is at no departure, the published semantics permits its turn and the automaton does not hold it back.
   -- It is barred exactly at a departure and at a with that carries variety; otherwise it waits.
   pub record Verdict (c : Code) (pace : Pace) (os : List Open) : Type 0 where
-    pub goes : is-finished (status-at two sc s i c pace os) ≡ false → is-ready (status-at two sc s i c pace os) ≡ not (departs (extract p i) c pace) && (permits sc s i c pace && is-some (hears p i (told sc s i c pace os)))
-    pub bars : is-barred (status-at two sc s i c pace os) ≡ departs (extract p i) c pace || never-syncs (extract p i) c pace
+    pub goes : is-finished (status-at two-point sc s i c pace os) ≡ false → is-ready (status-at two-point sc s i c pace os) ≡ not (departs (extract p i) c pace) && (permits sc s i c pace && is-some (hears p i (told sc s i c pace os)))
+    pub bars : is-barred (status-at two-point sc s i c pace os) ≡ departs (extract p i) c pace || never-syncs (extract p i) c pace
     pub enters : Enters c pace os
 
 -- The machine's states and the automaton's, side by side from their beginnings, through any turns of ready threads, rests and feeds.
 pub data Together (sc : Script) : State → Pool → Type 0 where
   start : Together sc (begin sc) (first sc)
-  turn : {s : State} {p : Pool} (i : ℕ) (outs : List Output) (r : Pool) → Together sc s p → T (is-ready (status two sc s i)) →
-      (let t = getD (s .threads) i ended in hears p i (told sc s i (t .code) (t .pace) (t .inside))) ≡ some (outs, r) → Together sc (take-turn two sc s (some i)) r
-  rest : {s : State} {p : Pool} → Together sc s p → Together sc (take-turn two sc s none) p
+  turn : {s : State} {p : Pool} (i : ℕ) (outs : List Output) (r : Pool) → Together sc s p → T (is-ready (status two-point sc s i)) →
+      (let t = getD (s .threads) i ended in hears p i (told sc s i (t .code) (t .pace) (t .inside))) ≡ some (outs, r) → Together sc (take-turn (rules two-point sc) s (some i)) r
+  rest : {s : State} {p : Pool} → Together sc s p → Together sc (take-turn (rules two-point sc) s none) p
   fed : {s : State} {p : Pool} (t : ℕ) (z : ℤ) → Together sc s p → Together sc (set-track s t (getD (s .tracks) t [] ++ (z ∷ []))) p
 
--- Of every script with open channels and declared variables: whatever state it reaches, the automaton has come along, and wherever the two stand together the machine's verdicts are the automaton's.
+-- Of every valid script of two levels: whatever state it reaches, the automaton has come along, and wherever the two stand together the machine's
+-- verdicts are the automaton's.
 abbrev pub Gives-its-verdicts : Type 0
 Gives-its-verdicts =
-    (sc : Script) → T (all-open (sc .channel-levels)) → T (all-declared (sc .variables) (sc .codes)) →
+    (sc : Script) → All (Valid (head-of sc) 0) (sc .codes) →
     ((s : State) → Reached sc s → (p : Pool) × Together sc s p) ×
     ((s : State) (p : Pool) → Together sc s p → (i : ℕ) → let t = getD (s .threads) i ended in Verdict sc s p i (t .code) (t .pace) (t .inside))

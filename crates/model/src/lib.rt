@@ -6,37 +6,49 @@ ghost use mathlib.Core.Option.{Option as Perhaps, some};
 ghost use Prim.Native.Nat.{ℕ};
 ghost use lib.Dec.{T as Holds};
 ghost use lib.ListN.{getD};
-ghost use Rattle.model.specs.Secrecy.{Every-run-is-secret};
-ghost use Rattle.model.specs.Typing.{Every-typed-run-is-unaltered};
 ghost use Rattle.lattice.specs.Levels.{Lawful};
-ghost use Rattle.model.specs.Follows.{two, Follows};
+ghost use Rattle.lattice.specs.Orders.{two-point};
+ghost use Rattle.model.specs.Schedulers.{Rests};
+ghost use Rattle.model.specs.Secrecy.{Every-run-is-secret};
+ghost use Rattle.model.specs.Inspection.{Every-typed-run-is-unaltered};
+ghost use Rattle.model.specs.Follows.{Follows};
 ghost use Rattle.model.specs.Together.{Gives-its-verdicts};
 ghost use Rattle.model.specs.Bottoms.{Bottoms-are-not-read};
 ghost use Rattle.model.specs.Table.{As-shown};
 ghost use Rattle.model.specs.Runs.{Calls-reach};
 ghost use Rattle.model.specs.Differences.{Differs};
-// A giver of turns: its answer and next state from its state and the ready set, and the law that it answers a ready thread.
-pub trait Giver {
+
+// Who gets the next turn: told which threads are ready, a scheduler answers a thread or a rest.
+pub trait Scheduler {
+    // Its answer and its next state, from its state and the set of ready threads alone.
     ghost meaning: { Self → List Bool → Perhaps ℕ × Self };
 
+    // The thread that it answers is ready.
     law picks_ready: { (g : Self) (rs : List Bool) (i : ℕ) → meaning g rs .0 ≡ some i → Holds (getD rs i false) };
 }
 
-// What a reader finds does not depend on what may not flow to that reader: every kind of levels, every script, this giver.
-pub fn secrecy_stands<G: Giver>() -> u8
-    ensures { λ _. ⌜ Every-run-is-secret {G = G} (G·Giver .meaning) ⌝ }
+// Where no thread is ready a scheduler rests: this follows from its law.
+pub fn rests_when_none_is_ready<S: Scheduler>() -> u8
+    ensures { λ _. ⌜ Rests (S·Scheduler .meaning) ⌝ }
+{
+    0
+}
+
+// What a reader is answered does not depend on what may not flow to that reader: every kind of levels, every script, this scheduler.
+pub fn secrecy_stands<S: Scheduler>() -> u8
+    ensures { λ _. ⌜ Every-run-is-secret (S·Scheduler .meaning) ⌝ }
 {
     0
 }
 
 // A script that passes inspection gets the answers that it would get with every level open.
-pub fn transparency_stands<G: Giver>() -> u8
-    ensures { λ _. ⌜ Every-typed-run-is-unaltered {G = G} (G·Giver .meaning) ⌝ }
+pub fn transparency_stands<S: Scheduler>() -> u8
+    ensures { λ _. ⌜ Every-typed-run-is-unaltered (S·Scheduler .meaning) ⌝ }
 {
     0
 }
 
-// With two levels and every channel open, the verdicts are those of the published automaton, but for the departures.
+// Under two levels every turn is a transition of the published automaton, whose state is read off the machine's, but for the departures.
 pub fn follows_the_automaton() -> u8
     ensures { λ _. ⌜ Follows ⌝ }
 {
@@ -50,16 +62,16 @@ pub fn gives_its_verdicts() -> u8
     0
 }
 
-// Beyond the departures that are listed: uneven closed ifs that the automaton never stops, and the machine bars.
+// Where the two differ: closed ifs that take no fixed time and that the automaton never stops, and the machine bars.
 pub fn bars_more_than_it_stops() -> u8
     ensures { λ _. ⌜ Differs ⌝ }
 {
     0
 }
 
-// What calls lead to, whatever obedient giver gives the turns, is what turns of ready threads, rests and feeds lead to.
-pub fn calls_reach<V: Giver>(_giver: &V) -> u8
-    ensures { λ _. ⌜ Calls-reach (V·Giver .meaning) ⌝ }
+// What calls lead to, whatever scheduler gives the turns, is what turns of ready threads, rests and feeds lead to.
+pub fn calls_reach<S: Scheduler>() -> u8
+    ensures { λ _. ⌜ Calls-reach (S·Scheduler .meaning) ⌝ }
 {
     0
 }
@@ -73,7 +85,7 @@ pub fn gives_table_one() -> u8
 
 // Open and closed are a kind of levels.
 pub fn two_levels_are_lawful() -> u8
-    ensures { λ _. ⌜ Lawful two ⌝ }
+    ensures { λ _. ⌜ Lawful two-point ⌝ }
 {
     0
 }

@@ -6,7 +6,8 @@ use lib.IntN.{ℤ, pos}
 use lib.ListN.{length, getD}
 use Rattle.codec.specs.Expressions.{Expr}
 use Rattle.codec.specs.Expressions.Op.{constant, variable, sample, held, binary, unary}
-use Rattle.model.specs.Machine.{Cell, blank, State, unused, eval, joined, level-of, value-of, top, below, sample-at, apply-binary, apply-unary}
+use Rattle.model.specs.Values.{Cell, blank, eval, joined, top, below, sample-at, apply-binary, apply-unary}
+use Rattle.model.specs.Machine.{State, unused, level-of, value-of}
 use Rattle.model.proofs.Confidential.View.{View, Had, Seen, Hid, LR, lr-same, lr-join, lr-zero, seen-left, seen-right, seen-path, track-had}
 
 pub record CR (v : View) (c d : Cell) : Type 0 where

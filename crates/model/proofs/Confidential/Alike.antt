@@ -9,18 +9,19 @@ use lib.Dec.{T}
 use lib.IntN.{ℤ}
 use lib.ListN.{length, getD, length-set}
 use lib.Bits.{bitOr}
-use Rattle.model.specs.Level.{is-open}
+use Rattle.model.specs.Levels.{is-open}
 use Rattle.codec.specs.Expressions.{Expr}
 use Rattle.script.specs.Code.{Code}
-use Rattle.model.specs.Code.{even, needs}
+use Rattle.model.specs.Stretches.{fixed-time, needs}
 use Rattle.script.specs.Code.Code.{done, skip, assign, put, branch, loop, lock}
-use Rattle.model.specs.Machine.{Open, Pace, Thread, ended, State, Status, status-at, status, choose-status, clash, against, place, level-of, value-of, set-thread, ready-from, ready-set, all-finished, all-true, is-ready, is-finished}
-use Rattle.model.specs.Machine.Pace.{running, idling}
+use Rattle.model.specs.Threads.{Open, Pace, Thread, ended, clash, against, context}
+use Rattle.model.specs.Machine.{State, Status, status-at, status, choose-status, level-of, value-of, set-thread, each-from, ready-set, all-finished, all-true, is-ready, is-finished, rules}
+use Rattle.model.specs.Threads.Pace.{running, idling}
 use Rattle.model.proofs.Confidential.Slots.{set-rel, T-false, either-way}
 use Rattle.model.proofs.Confidential.View.{View, LR, lr-same, lr-join, lr-open, seen-open}
 use Rattle.model.proofs.Confidential.Agree.{Agree, Ex, ex, agree-sym, agree-trans}
 use Rattle.model.proofs.Confidential.Stack.{HadStack, Sound}
-use Rattle.model.proofs.Confidential.SoundStep.{place-had}
+use Rattle.model.proofs.Confidential.SoundStep.{context-had}
 use Rattle.model.proofs.Confidential.Quiet.{quiet-ready}
 use Rattle.model.proofs.Confidential.Threads.{TR, against-alike}
 use Rattle.model.proofs.Confidential.Threads.TR.{same, apart}
@@ -67,8 +68,8 @@ module _ (v : View) where
     pub looks : (e : Expr) → Ex v (lev s e) (lev t e) (val s e) (val t e)
     looks e = ex v s t (hs .cells) (ht .cells) (h .agree) e
 
-    pub branch-level : (os : List Open) (e : Expr) → HadStack v os → LR v (v .k .join (place os) (lev s e)) (v .k .join (place os) (lev t e))
-    branch-level os e g = lr-join v (lr-same v (place-had v os g)) (looks e .levels)
+    pub branch-level : (os : List Open) (e : Expr) → HadStack v os → LR v (v .k .join (context os) (lev s e)) (v .k .join (context os) (lev t e))
+    branch-level os e g = lr-join v (lr-same v (context-had v os g)) (looks e .levels)
 
     barring : (i : ℕ) → against i (s .threads) ≡ against i (t .threads)
     barring i = against-alike v i (s .threads) (t .threads) (h .long) (h .threads)
@@ -81,7 +82,7 @@ module _ (v : View) where
     status-alike-at i (assign x e c) running os g = refl
     status-alike-at i (put n e c) running os g = refl
     status-alike-at i (branch e p q c) running os g =
-        ap₂ (λ (b : Bool) (m : ℕ). choose-status (not (even p && even q) && not b) ((is-open (place os) && not b) && clash (bitOr (needs p) (needs q)) m))
+        ap₂ (λ (b : Bool) (m : ℕ). choose-status (not (fixed-time p && fixed-time q) && not b) ((is-open (context os) && not b) && clash (bitOr (needs p) (needs q)) m))
         (lr-open v (branch-level os e g)) (barring i)
     status-alike-at i (loop e b c) running os g = ap (λ (z : Bool). choose-status (not z) false) (lr-open v (looks e .levels))
     status-alike-at i (lock m e b c) running os g = ⊎-elim opens shut (either-way (is-open (lev s e)))
@@ -100,14 +101,14 @@ module _ (v : View) where
         go a b g (apart y n l l′ w w′ x x′ m f q q′) = quiet-ready v s i x q ∙ sym (quiet-ready v t i x′ q′)
 
     from-alike : (f : Status → Bool) (i : ℕ) (ts us : List Thread) → length ts ≡ length us
-        → ready-from (λ j. f (status (v .k) (v .sc) s j)) i ts ≡ ready-from (λ j. f (status (v .k) (v .sc) t j)) i us
+        → each-from (λ j. f (status (v .k) (v .sc) s j)) i ts ≡ each-from (λ j. f (status (v .k) (v .sc) t j)) i us
     from-alike f i [] [] n = refl
     from-alike f i [] (u ∷ us) n = absurd (omega arith)
     from-alike f i (a ∷ ts) [] n = absurd (omega arith)
     from-alike f i (a ∷ ts) (u ∷ us) n = ap₂ {B = List Bool} {C = List Bool} _∷_ (ap f (status-alike i)) (from-alike f (suc i) ts us (omega arith))
 
-    pub ready-alike : ready-set (v .k) (v .sc) s ≡ ready-set (v .k) (v .sc) t
+    pub ready-alike : ready-set (rules (v .k) (v .sc)) s ≡ ready-set (rules (v .k) (v .sc)) t
     ready-alike = from-alike is-ready 0 (s .threads) (t .threads) (h .long)
 
-    pub finished-alike : all-finished (v .k) (v .sc) s ≡ all-finished (v .k) (v .sc) t
+    pub finished-alike : all-finished (rules (v .k) (v .sc)) s ≡ all-finished (rules (v .k) (v .sc)) t
     finished-alike = ap all-true (from-alike is-finished 0 (s .threads) (t .threads) (h .long))

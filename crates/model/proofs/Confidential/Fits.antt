@@ -4,13 +4,14 @@ use mathlib.Core.List.{List, _∷_}
 use Prim.Native.Nat.{ℕ, zero, suc}
 use lib.Dec.{T}
 use lib.Bits.{bitOr}
-use Rattle.model.specs.Level.{is-open}
+use Rattle.model.specs.Levels.{is-open}
 use Rattle.codec.specs.Expressions.{Expr}
 use Rattle.script.specs.Code.{Code}
-use Rattle.model.specs.Code.{needs}
+use Rattle.model.specs.Stretches.{needs}
 use Rattle.script.specs.Code.Code.{done, skip, assign, put, branch, loop, lock}
-use Rattle.model.specs.Machine.{Open, place, reserved, close-branch}
-use Rattle.model.specs.Machine.Open.{in-branch, in-loop, in-lock}
+use Rattle.model.specs.Threads.{Open, context, reserved}
+use Rattle.model.specs.Machine.{close-branch}
+use Rattle.model.specs.Threads.Open.{in-branch, in-loop, in-lock}
 use Rattle.model.proofs.Confidential.Masks.{Lies, lies-zero, lies-trans, lies-left, lies-right}
 use Rattle.model.proofs.Confidential.Threads.{Fit, FitIn, Fits, FitMask}
 
@@ -61,7 +62,7 @@ one-lies false p q = lies-right (needs p) (needs q)
 
 pub fits-branch : (e : Expr) (l : ℕ) (w : Bool) (p q c : Code) {os : List Open} → Fits (branch e p q c) os → Fits (cond w p q) (in-branch l w p q c ∷ os)
 fits-branch e l w p q c {os} h = record {
-  fit = record { is = λ n. lies-trans (one-lies w p q) (go (is-open (place os)) (is-open l) n (λ z. lies-trans (lies-left (bitOr (needs p) (needs q)) (needs c)) (h .fit .is z))) };
+  fit = record { is = λ n. lies-trans (one-lies w p q) (go (is-open (context os)) (is-open l) n (λ z. lies-trans (lies-left (bitOr (needs p) (needs q)) (needs c)) (h .fit .is z))) };
   deep = (fits-next e p q c h .fit, h .deep);
 }
   where

@@ -11,16 +11,18 @@ use Rattle.lattice.specs.Levels.{Levels, Lawful}
 use Rattle.codec.specs.Expressions.Op.{constant, held}
 use Rattle.script.specs.Code.Code.{done, skip, put, loop}
 use Rattle.script.specs.Code.{Script}
-use Rattle.model.specs.Machine.{Meaning, step-at, do-put}
+use Rattle.model.specs.Schedulers.{Meaning}
+use Rattle.model.specs.Machine.{step-at, do-put}
 use Rattle.model.specs.Calls.{Answer, perform}
 use Rattle.model.specs.Calls.Call.{feed, advance-by, count}
 use Rattle.model.specs.Calls.Answer.{holds, gave, counted, found, stands, refused}
-use Rattle.model.specs.Secrecy.{Levelled, Secret}
+use Rattle.model.specs.Levels.{Levelled}
+use Rattle.model.specs.Secrecy.{Secret}
 
-abbrev two : Levels
-two = record { has = λ l. ltb l 2; flows = leb; join = max }
+abbrev two-point : Levels
+two-point = record { has = λ l. ltb l 2; flows = leb; join = max }
 
-two-lawful : Lawful two
+two-lawful : Lawful two-point
 two-lawful = record {
   open-has = tt;
   join-has = λ a b p q. omega (arith, ltb→lt, lt→ltb);
@@ -46,7 +48,7 @@ script = record {
   codes = loop (held 0 ∷ []) (skip done) (put 0 (constant (pos 7) ∷ []) done) ∷ [];
 }
 
-script-levelled : Levelled two script
+script-levelled : Levelled two-point script
 script-levelled = record { track-codes = tt; channel-codes = tt }
 
 -- A giver that always names thread 0, ready or not.
@@ -63,7 +65,7 @@ second (a ∷ (found n ∷ cs)) = 9
 second (a ∷ (stands n ∷ cs)) = 9
 second (a ∷ (refused n ∷ cs)) = 9
 
-stubborn-leaks : Secret two script stubborn → ⊥
+stubborn-leaks : Secret two-point script stubborn → ⊥
 unfolding perform step-at do-put second
 stubborn-leaks secret =
     let e : _≡_ {A = ℕ} 0 1 = ap second (secret 0 tt tt (feed true 0 (pos 5) ∷ (advance-by true 2 ∷ (count true 0 ∷ []))) (advance-by true 2 ∷ (count true 0 ∷ [])) refl) in

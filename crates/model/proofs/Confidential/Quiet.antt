@@ -12,12 +12,14 @@ use lib.Bits.{bitOr}
 use Rattle.lattice.specs.Levels.{Levels}
 use Rattle.codec.specs.Expressions.{Expr}
 use Rattle.script.specs.Code.{Code}
-use Rattle.model.specs.Code.{assigns, even, time, needs, is-literal-one}
+use Rattle.model.specs.Stretches.{assigns, fixed-time, duration, needs, is-literal-one}
 use Rattle.codec.specs.Expressions.Op.{constant, variable, sample, held, binary, unary}
 use Rattle.script.specs.Code.Code.{done, skip, assign, put, branch, loop, lock}
-use Rattle.model.specs.Machine.{blank, Open, Pace, guard-of, State, status-at, lag, place, owned, reserved, joined}
-use Rattle.model.specs.Machine.Open.{in-branch, in-lock}
-use Rattle.model.specs.Machine.Pace.{running, idling}
+use Rattle.model.specs.Values.{blank, joined}
+use Rattle.model.specs.Threads.{Open, Pace, guard-of, context, owned, reserved}
+use Rattle.model.specs.Machine.{State, status-at, lag}
+use Rattle.model.specs.Threads.Open.{in-branch, in-lock}
+use Rattle.model.specs.Threads.Pace.{running, idling}
 use Rattle.model.specs.Machine.Status.{ready}
 use Rattle.model.proofs.Confidential.Masks.{Lies, lies-zero, lies-trans, lies-left, lies-right, absorb}
 use Rattle.model.proofs.Confidential.Slots.{T-true, T-false}
@@ -60,15 +62,15 @@ mask y = bitOr (needs (y .p)) (needs (y .q))
 
 -- A stretch that does no more than the two ways.
 pub record Within (y : Way) (c : Code) : Type 0 where
-  pub flat : T (even c)
+  pub flat : T (fixed-time c)
   pub fewer : (x : ℕ) → T (assigns x c) → T (assigned x (y .p) (y .q))
   pub locks : Lies (needs c) (mask y)
 
 module _ {y : Way} where
-  pub within-p : T (even (y .p)) → Within y (y .p)
+  pub within-p : T (fixed-time (y .p)) → Within y (y .p)
   within-p h = record { flat = h; fewer = λ x t. or-l (assigns x (y .p)) (assigns x (y .q)) t; locks = lies-left (needs (y .p)) (needs (y .q)) }
 
-  pub within-q : T (even (y .q)) → Within y (y .q)
+  pub within-q : T (fixed-time (y .q)) → Within y (y .q)
   within-q h = record { flat = h; fewer = λ x t. or-r (assigns x (y .p)) (assigns x (y .q)) t; locks = lies-right (needs (y .p)) (needs (y .q)) }
 
   pub within-done : Within y done
@@ -85,35 +87,35 @@ module _ {y : Way} where
 
   pub within-branch-p : (e : Expr) (p q c : Code) → Within y (branch e p q c) → Within y p
   within-branch-p e p q c h = record {
-    flat = and-l (even p) (even q) (and-l (even p && even q) (even c) (h .flat));
+    flat = and-l (fixed-time p) (fixed-time q) (and-l (fixed-time p && fixed-time q) (fixed-time c) (h .flat));
     fewer = λ x t. h .fewer x (or-l (assigns x p || assigns x q) (assigns x c) (or-l (assigns x p) (assigns x q) t));
     locks = lies-trans (lies-trans (lies-left (needs p) (needs q)) (lies-left (bitOr (needs p) (needs q)) (needs c))) (h .locks);
   }
 
   pub within-branch-q : (e : Expr) (p q c : Code) → Within y (branch e p q c) → Within y q
   within-branch-q e p q c h = record {
-    flat = and-r (even p) (even q) (and-l (even p && even q) (even c) (h .flat));
+    flat = and-r (fixed-time p) (fixed-time q) (and-l (fixed-time p && fixed-time q) (fixed-time c) (h .flat));
     fewer = λ x t. h .fewer x (or-l (assigns x p || assigns x q) (assigns x c) (or-r (assigns x p) (assigns x q) t));
     locks = lies-trans (lies-trans (lies-right (needs p) (needs q)) (lies-left (bitOr (needs p) (needs q)) (needs c))) (h .locks);
   }
 
   pub within-branch : (e : Expr) (p q c : Code) → Within y (branch e p q c) → Within y c
   within-branch e p q c h = record {
-    flat = and-r (even p && even q) (even c) (h .flat);
+    flat = and-r (fixed-time p && fixed-time q) (fixed-time c) (h .flat);
     fewer = λ x t. h .fewer x (or-r (assigns x p || assigns x q) (assigns x c) t);
     locks = lies-trans (lies-right (bitOr (needs p) (needs q)) (needs c)) (h .locks);
   }
 
   pub within-lock-in : (m : ℕ) (e : Expr) (b c : Code) → Within y (lock m e b c) → Within y b
   within-lock-in m e b c h = record {
-    flat = and-r (is-literal-one e) (even b) (and-l (is-literal-one e && even b) (even c) (h .flat));
+    flat = and-r (is-literal-one e) (fixed-time b) (and-l (is-literal-one e && fixed-time b) (fixed-time c) (h .flat));
     fewer = λ x t. h .fewer x (or-l (assigns x b) (assigns x c) t);
     locks = lies-trans (lies-trans (lies-right m (needs b)) (lies-left (bitOr m (needs b)) (needs c))) (h .locks);
   }
 
   pub within-lock : (m : ℕ) (e : Expr) (b c : Code) → Within y (lock m e b c) → Within y c
   within-lock m e b c h = record {
-    flat = and-r (is-literal-one e && even b) (even c) (h .flat);
+    flat = and-r (is-literal-one e && fixed-time b) (fixed-time c) (h .flat);
     fewer = λ x t. h .fewer x (or-r (assigns x b) (assigns x c) t);
     locks = lies-trans (lies-right (bitOr m (needs b)) (needs c)) (h .locks);
   }
@@ -125,15 +127,15 @@ module _ {y : Way} where
 pub data Above (v : View) (y : Way) (l : ℕ) (w : Bool) : List Open → ℕ → Type 0 where
   at-base : Above v y l w (base y l w) (suc (lag w (y .p) (y .q)))
   in-br : {os : List Open} {n l′ : ℕ} {w′ : Bool} {p q c : Code} → Above v y l w os n → Hid v l′ → Within y p → Within y q → Within y c
-      → Above v y l w (in-branch l′ w′ p q c ∷ os) (suc (lag w′ p q + (time c + n)))
+      → Above v y l w (in-branch l′ w′ p q c ∷ os) (suc (lag w′ p q + (duration c + n)))
   in-lk : {os : List Open} {n m : ℕ} {c : Code} → Above v y l w os n → Lies m (mask y) → Within y c
-      → Above v y l w (in-lock m c ∷ os) (suc (time c + n))
+      → Above v y l w (in-lock m c ∷ os) (suc (duration c + n))
 
 -- A thread there with n turns left until the branch is closed, the closing turn among them.
 pub data Quiet (v : View) (y : Way) (l : ℕ) (w : Bool) : Code → Pace → List Open → ℕ → Type 0 where
-  runs : {c : Code} {os : List Open} {m n : ℕ} → Above v y l w os m → Within y c → n ≡ time c + m → Quiet v y l w c running os n
+  runs : {c : Code} {os : List Open} {m n : ℕ} → Above v y l w os m → Within y c → n ≡ duration c + m → Quiet v y l w c running os n
   waits : {os : List Open} {m n j l′ : ℕ} {w′ : Bool} {p q c : Code} → Above v y l w os m → Hid v l′ → Within y p → Within y q → Within y c
-      → n ≡ suc (j + (time c + m)) → Quiet v y l w done (idling j) (in-branch l′ w′ p q c ∷ os) n
+      → n ≡ suc (j + (duration c + m)) → Quiet v y l w done (idling j) (in-branch l′ w′ p q c ∷ os) n
   waits-last : {j n : ℕ} → n ≡ suc j → Quiet v y l w done (idling j) (base y l w) n
 
 literal-level : (k : Levels) (f g : ℕ → ℕ) (e : Expr) → T (is-literal-one e) → joined k f g e 0 ≡ 0
@@ -166,10 +168,10 @@ module _ (v : View) {y : Way} {l : ℕ} {w : Bool} where
   quiet-pos (waits a h x y z e) = omega arith
   quiet-pos (waits-last e) = omega arith
 
-  pub above-place : {os : List Open} {n : ℕ} → Hid v l → Above v y l w os n → Hid v (place os)
-  above-place hl at-base = hl
-  above-place hl (in-br a h x y z) = h
-  above-place hl (in-lk a h x) = above-place hl a
+  pub above-context : {os : List Open} {n : ℕ} → Hid v l → Above v y l w os n → Hid v (context os)
+  above-context hl at-base = hl
+  above-context hl (in-br a h x y z) = h
+  above-context hl (in-lk a h x) = above-context hl a
 
   pub above-in : {os : List Open} {n : ℕ} → Above v y l w os n → In l (y .p) (y .q) os
   above-in at-base = here
@@ -178,7 +180,7 @@ module _ (v : View) {y : Way} {l : ℕ} {w : Bool} where
 
   pub above-reserved : {os : List Open} {n : ℕ} → Hid v l → Above v y l w os n → reserved os ≡ reserved (base y l w)
   above-reserved hl at-base = refl
-  above-reserved hl (in-br {os = os} a h x y z) = rw (hid-not-open v (above-place hl a)) (above-reserved hl a)
+  above-reserved hl (in-br {os = os} a h x y z) = rw (hid-not-open v (above-context hl a)) (above-reserved hl a)
   above-reserved hl (in-lk a h x) = above-reserved hl a
 
   pub above-owned : {os : List Open} {n : ℕ} → Above v y l w os n → (m : ℕ) → Lies (mask y) m → bitOr (owned os) m ≡ bitOr (owned (y .rest)) m
@@ -206,12 +208,12 @@ module _ (v : View) {y : Way} {l : ℕ} {w : Bool} where
   run-ready s i (skip c) hl a h = refl
   run-ready s i (assign x e c) hl a h = refl
   run-ready s i (put n e c) hl a h = refl
-  run-ready s i (branch e p q c) hl a h = rw (T-true (even p && even q) (and-l (even p && even q) (even c) (h .flat)), hid-not-open v (above-place hl a)) refl
+  run-ready s i (branch e p q c) hl a h = rw (T-true (fixed-time p && fixed-time q) (and-l (fixed-time p && fixed-time q) (fixed-time c) (h .flat)), hid-not-open v (above-context hl a)) refl
   run-ready s i (loop e b c) hl a h = absurd (h .flat)
   run-ready s i (lock m e b c) hl a h =
       rw (
-        literal-level (v .k) (λ x. getD (s .cells) x blank .level) (λ t. getD (v .sc .track-levels) t 0) e (and-l (is-literal-one e) (even b) (and-l (is-literal-one e && even b) (even c) (h .flat))),
-        hid-not-open v (above-place hl a),
+        literal-level (v .k) (λ x. getD (s .cells) x blank .level) (λ t. getD (v .sc .track-levels) t 0) e (and-l (is-literal-one e) (fixed-time b) (and-l (is-literal-one e && fixed-time b) (fixed-time c) (h .flat))),
+        hid-not-open v (above-context hl a),
       ) refl
 
   pub quiet-ready : (s : State) (i : ℕ) {c : Code} {r : Pace} {os : List Open} {n : ℕ} → Hid v l → Quiet v y l w c r os n → status-at (v .k) (v .sc) s i c r os ≡ ready

@@ -8,18 +8,20 @@ use lib.Dec.{T, eqb, eqb-refl}
 use lib.ListN.{length, getD, length-set}
 use Rattle.codec.specs.Expressions.{Expr}
 use Rattle.script.specs.Code.{Code}
-use Rattle.model.specs.Code.{even, time, assigns}
+use Rattle.model.specs.Stretches.{fixed-time, duration, assigns}
 use Rattle.script.specs.Code.Code.{done, skip, assign, put, branch, loop, lock}
-use Rattle.model.specs.Machine.{Cell, blank, Channel, unused, Open, Pace, Thread, ended, State, place, value-of, is-zero, set-thread, set-cell, set-cells, set-channel, at-code, at-idle, close-branch, lag, raise, guard, do-put, step-at}
-use Rattle.model.specs.Machine.Open.{in-branch, in-lock}
-use Rattle.model.specs.Machine.Pace.{running}
+use Rattle.model.specs.Values.{Cell, blank, is-zero}
+use Rattle.model.specs.Machine.{Channel, unused, State, value-of, set-thread, set-cell, set-cells, set-channel, close-branch, lag, raise, do-put, step-at}
+use Rattle.model.specs.Threads.{Open, Pace, Thread, ended, context, at-code, at-idle, guard}
+use Rattle.model.specs.Threads.Open.{in-branch, in-lock}
+use Rattle.model.specs.Threads.Pace.{running}
 use Rattle.model.proofs.Confidential.Slots.{set-pred, cond-ind, T-true}
 use Rattle.model.proofs.Confidential.View.{View, Had, Seen, Hid, hid-left, hid-right, join-had, had-zero, seen-down, channel-had}
 use Rattle.model.proofs.Confidential.Agree.{Agree, CR, cr-same, cr-hid, agree-same, channel-level, level-had}
 use Rattle.model.proofs.Confidential.Stack.{In, Guards, assigned, guard-had, guard-over}
-use Rattle.model.proofs.Confidential.SoundStep.{place-had}
+use Rattle.model.proofs.Confidential.SoundStep.{context-had}
 use Rattle.model.proofs.Confidential.Raise.{raise-pred, raise-long}
-use Rattle.model.proofs.Confidential.Quiet.{Way, base, Within, Above, Quiet, above-in, above-place, and-l, or-l, within-skip, within-assign, within-put, within-branch, within-branch-p, within-branch-q, within-lock, within-lock-in, within-lock-mask}
+use Rattle.model.proofs.Confidential.Quiet.{Way, base, Within, Above, Quiet, above-in, above-context, and-l, or-l, within-skip, within-assign, within-put, within-branch, within-branch-p, within-branch-q, within-lock, within-lock-in, within-lock-mask}
 use Rattle.model.proofs.Confidential.Quiet.Above.{at-base, in-br, in-lk}
 use Rattle.model.proofs.Confidential.Quiet.Quiet.{runs, waits, waits-last}
 use Rattle.model.proofs.Confidential.Alike.{Safe}
@@ -29,9 +31,9 @@ pub data After (v : View) (y : Way) (l : ℕ) (w : Bool) (i : ℕ) (s u : State)
   goes : (mid : State) (t : Thread) → Agree v s mid → mid .threads ≡ s .threads → u ≡ set-thread mid i t
       → Quiet v y l w (t .code) (t .pace) (t .inside) n → After v y l w i s u n
 
-pub lag-time : (p q : Code) (b : Bool) → T (even p && even q) → time (cond b p q) + lag b p q ≡ max (time p) (time q)
-lag-time p q true h = rw (T-true (even p && even q) h) (omega arith)
-lag-time p q false h = rw (T-true (even p && even q) h) (omega arith)
+pub lag-duration : (p q : Code) (b : Bool) → T (fixed-time p && fixed-time q) → duration (cond b p q) + lag b p q ≡ max (duration p) (duration q)
+lag-duration p q true h = rw (T-true (fixed-time p && fixed-time q) h) (omega arith)
+lag-duration p q false h = rw (T-true (fixed-time p && fixed-time q) h) (omega arith)
 
 either-within : {y : Way} (x : ℕ) (p q : Code) → Within y p → Within y q → T (assigned x p q) → T (assigned x (y .p) (y .q))
 either-within x p q hp hq t = go (assigns x p) (assigns x q) (hp .fewer x) (hq .fewer x) t
@@ -50,7 +52,7 @@ module _ (v : View) {y : Way} {l : ℕ} {w : Bool} (hl : Hid v l) (s : State) (i
   base-close zero n e = closed (omega arith) refl
   base-close (suc j) n e = goes s (at-idle j (base y l w)) (agree-same v s) refl refl (waits-last (omega arith))
 
-  inner-close : {os : List Open} {m l′ : ℕ} (w′ : Bool) {p q c : Code} (j n : ℕ) → Above v y l w os m → Hid v l′ → Within y p → Within y q → Within y c → suc n ≡ suc (j + (time c + m))
+  inner-close : {os : List Open} {m l′ : ℕ} (w′ : Bool) {p q c : Code} (j n : ℕ) → Above v y l w os m → Hid v l′ → Within y p → Within y q → Within y c → suc n ≡ suc (j + (duration c + m))
       → After v y l w i s (set-thread s i (close-branch j (in-branch l′ w′ p q c) os c)) n
   inner-close {os} {m} {l′} w′ {p} {q} {c} zero n a h hp hq hc e = goes s (at-code c os) (agree-same v s) refl refl (runs a hc (omega arith))
   inner-close {os} {m} {l′} w′ {p} {q} {c} (suc j) n a h hp hq hc e = goes s (at-idle j (in-branch l′ w′ p q c ∷ os)) (agree-same v s) refl refl (waits a h hp hq hc (omega arith))
@@ -69,8 +71,8 @@ module _ (v : View) {y : Way} {l : ℕ} {w : Bool} (hl : Hid v l) (s : State) (i
     guard-hid : (x : ℕ) → T (assigned x (y .p) (y .q)) → Hid v (guard (v .k) x (s .threads) 0)
     guard-hid x t = record { is = λ z. hl .is (guard-over v x i (s .threads) 0 (subst (In l (y .p) (y .q)) (sym eo) (above-in v a)) t (λ j. hs .guards j .had) (had-zero v) z) }
 
-    place-hid : Hid v (place os)
-    place-hid = above-place v hl a
+    context-hid : Hid v (context os)
+    context-hid = above-context v hl a
 
     cell-quiet : (x : ℕ) (c : Cell) → T (assigned x (y .p) (y .q)) → Hid v (c .level) → Agree v s (set-cell s x c)
     cell-quiet x c t h = record {
@@ -96,7 +98,7 @@ module _ (v : View) {y : Way} {l : ℕ} {w : Bool} (hl : Hid v l) (s : State) (i
       turns = refl;
     }
 
-    channel-quiet : (h : ℕ) (c : Channel) → T (v .k .flows (place os) (channel-level v h)) → Agree v s (set-channel s h c)
+    channel-quiet : (h : ℕ) (c : Channel) → T (v .k .flows (context os) (channel-level v h)) → Agree v s (set-channel s h c)
     channel-quiet h c f = record {
       cells-long = refl;
       cells = λ z. cr-same v _;
@@ -104,19 +106,19 @@ module _ (v : View) {y : Way} {l : ℕ} {w : Bool} (hl : Hid v l) (s : State) (i
       tracks = λ n h. refl;
       channels-long = sym (length-set (s .channels) h c);
       channels = λ n z. set-pred (λ (d : Channel). getD (s .channels) n unused ≡ d) (s .channels) h n c unused refl
-          (λ e b. absurd (place-hid .is (seen-down v (place-had v os (g .had)) (channel-had v h) f (subst (λ (m : ℕ). Seen v (channel-level v m)) e z))));
+          (λ e b. absurd (context-hid .is (seen-down v (context-had v os (g .had)) (channel-had v h) f (subst (λ (m : ℕ). Seen v (channel-level v m)) e z))));
       turns = refl;
     }
 
     put-quiet : (h : ℕ) (e : Expr) → Agree v s (do-put (v .k) (v .sc) s i h e os)
     unfolding do-put
-    put-quiet h e = cond-ind (Agree v s) (v .k .flows (place os) (channel-level v h)) _ _ (λ t. channel-quiet h _ t) (λ t. agree-same v s)
+    put-quiet h e = cond-ind (Agree v s) (v .k .flows (context os) (channel-level v h)) _ _ (λ t. channel-quiet h _ t) (λ t. agree-same v s)
 
     put-threads : (h : ℕ) (e : Expr) → do-put (v .k) (v .sc) s i h e os .threads ≡ s .threads
     unfolding do-put
-    put-threads h e = cond-ind (λ (u : State). u .threads ≡ s .threads) (v .k .flows (place os) (channel-level v h)) _ _ (λ t. refl) (λ t. refl)
+    put-threads h e = cond-ind (λ (u : State). u .threads ≡ s .threads) (v .k .flows (context os) (channel-level v h)) _ _ (λ t. refl) (λ t. refl)
 
-    run-step : (c : Code) (n : ℕ) → Within y c → suc n ≡ time c + m → After v y l w i s (step-at (v .k) (v .sc) s i c running os) n
+    run-step : (c : Code) (n : ℕ) → Within y c → suc n ≡ duration c + m → After v y l w i s (step-at (v .k) (v .sc) s i c running os) n
     unfolding step-at
     run-step done n h e = done-step n a e
     run-step (skip c) n h e = goes s (at-code c os) (agree-same v s) refl refl (runs a (within-skip c h) (omega arith))
@@ -129,12 +131,12 @@ module _ (v : View) {y : Way} {l : ℕ} {w : Bool} (hl : Hid v l) (s : State) (i
     run-step (branch z p q c) n h e =
         let hp = within-branch-p z p q c h in
         let hq = within-branch-q z p q c h in
-        let hh = place-had v os (g .had) in
+        let hh = context-had v os (g .had) in
         let hz = level-had v s (hs .cells) z in
         let b = not (is-zero (value-of (v .k) (v .sc) s z)) in
         goes (set-cells s _) _ (raise-quiet p q _ hp hq (join-had v hh hz)) refl refl
-        (runs (in-br a (hid-left v hh hz place-hid) hp hq (within-branch z p q c h)) (one-way b hp hq)
-        (omega (arith, lag-time p q b (and-l (even p && even q) (even c) (h .flat)))))
+        (runs (in-br a (hid-left v hh hz context-hid) hp hq (within-branch z p q c h)) (one-way b hp hq)
+        (omega (arith, lag-duration p q b (and-l (fixed-time p && fixed-time q) (fixed-time c) (h .flat)))))
     run-step (loop z b c) n h e = absurd (h .flat)
     run-step (lock x z b c) n h e =
         goes s (at-code b (in-lock x c ∷ os)) (agree-same v s) refl refl

@@ -8,7 +8,8 @@ use native.Mathlib.Omega.{arith}
 use lib.Dec.{T}
 use lib.ListN.{length, getD}
 use Rattle.lattice.specs.Levels.{Levels}
-use Rattle.model.specs.Machine.{Cell, blank, raise}
+use Rattle.model.specs.Values.{Cell, blank}
+use Rattle.model.specs.Machine.{raise}
 use Rattle.model.proofs.Confidential.Slots.{cond-ind, T-true}
 
 abbrev pub raised : Levels → ℕ → Cell → Cell

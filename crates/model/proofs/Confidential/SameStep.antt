@@ -8,25 +8,27 @@ use native.Mathlib.Omega.{arith}
 use lib.Dec.{T}
 use lib.IntN.{ℤ, pos}
 use lib.ListN.{getD, length-set}
-use Rattle.model.specs.Level.{is-open}
+use Rattle.model.specs.Levels.{is-open}
 use Rattle.codec.specs.Expressions.{Expr}
 use Rattle.script.specs.Code.{Code}
-use Rattle.model.specs.Code.{even, time}
+use Rattle.model.specs.Stretches.{fixed-time, duration}
 use Rattle.script.specs.Code.Code.{done, skip, assign, put, branch, loop, lock}
-use Rattle.model.specs.Machine.{Cell, blank, Channel, unused, Entry, Open, Pace, Thread, State, status-at, choose-status, place, level-of, value-of, is-zero, set-cell, set-cells, set-channel, add-entry, at-code, lag, raise, do-put, step-at}
-use Rattle.model.specs.Machine.Open.{in-branch, in-loop, in-lock}
-use Rattle.model.specs.Machine.Pace.{running, idling}
+use Rattle.model.specs.Values.{Cell, blank, is-zero}
+use Rattle.model.specs.Machine.{Channel, unused, Entry, State, status-at, choose-status, level-of, value-of, set-cell, set-cells, set-channel, add-entry, lag, raise, do-put, step-at}
+use Rattle.model.specs.Threads.{Open, Pace, Thread, context, at-code}
+use Rattle.model.specs.Threads.Open.{in-branch, in-loop, in-lock}
+use Rattle.model.specs.Threads.Pace.{running, idling}
 use Rattle.model.specs.Machine.Status.{ready}
 use Rattle.model.proofs.Confidential.Slots.{set-rel, cond-ind, T-false, either-way}
 use Rattle.model.proofs.Confidential.View.{View, Had, Seen, Hid, LR, lr-join, lr-zero, lr-hid-right, hid-not-open, seen-or-hid, seen-left, seen-right, seen-down, seen-open, channel-had}
 use Rattle.model.proofs.Confidential.Agree.{CR, Ex, cr-make, channel-level}
 use Rattle.model.proofs.Confidential.Stack.{HadStack, assigned}
-use Rattle.model.proofs.Confidential.SoundStep.{place-had}
+use Rattle.model.proofs.Confidential.SoundStep.{context-had}
 use Rattle.model.proofs.Confidential.Raise.{raise-both, raise-long, raised}
 use Rattle.model.proofs.Confidential.Quiet.{within-p, within-q, and-l, and-r}
 use Rattle.model.proofs.Confidential.Quiet.Above.{at-base}
 use Rattle.model.proofs.Confidential.Quiet.Quiet.{runs}
-use Rattle.model.proofs.Confidential.QuietStep.{lag-time, one-way}
+use Rattle.model.proofs.Confidential.QuietStep.{lag-duration, one-way}
 use Rattle.model.proofs.Confidential.Threads.{TR, Fits, guard-alike}
 use Rattle.model.proofs.Confidential.Threads.TR.{same, apart}
 use Rattle.model.proofs.Confidential.Fits.{fits-skip, fits-assign, fits-put, fits-close, fits-loop-out, fits-loop-in, fits-lock, fits-next, fits-mask, fits-branch}
@@ -134,7 +136,7 @@ module _ (v : View) where
 
     put-alike : (n : ℕ) (e : Expr) (os : List Open) → Alike v (do-put (v .k) (v .sc) s i n e os) (do-put (v .k) (v .sc) t i n e os)
     unfolding do-put
-    put-alike n e os = go (v .k .flows (place os) (channel-level v n))
+    put-alike n e os = go (v .k .flows (context os) (channel-level v n))
       where
         go : (b : Bool) → Alike v (cond b (set-channel s n (add-entry (getD (v .sc .channel-sizes) n 0) (the-entry s n e) (getD (s .channels) n unused))) s)
             (cond b (set-channel t n (add-entry (getD (v .sc .channel-sizes) n 0) (the-entry t n e) (getD (t .channels) n unused))) t)
@@ -142,33 +144,33 @@ module _ (v : View) where
         go false = h
 
     branch-tr : (e : Expr) (p q c : Code) (os : List Open) → HadStack v os → Fits (branch e p q c) os → status-at (v .k) (v .sc) s i (branch e p q c) running os ≡ ready
-        → TR v (at-code (cond (not (is-zero (val s e))) p q) (in-branch (v .k .join (place os) (lev s e)) (not (is-zero (val s e))) p q c ∷ os))
-        (at-code (cond (not (is-zero (val t e))) p q) (in-branch (v .k .join (place os) (lev t e)) (not (is-zero (val t e))) p q c ∷ os))
-    branch-tr e p q c os g f r = ⊎-elim opens shuts (seen-or-hid v (v .k .join (place os) (lev s e)))
+        → TR v (at-code (cond (not (is-zero (val s e))) p q) (in-branch (v .k .join (context os) (lev s e)) (not (is-zero (val s e))) p q c ∷ os))
+        (at-code (cond (not (is-zero (val t e))) p q) (in-branch (v .k .join (context os) (lev t e)) (not (is-zero (val t e))) p q c ∷ os))
+    branch-tr e p q c os g f r = ⊎-elim opens shuts (seen-or-hid v (v .k .join (context os) (lev s e)))
       where
         look : Ex v (lev s e) (lev t e) (val s e) (val t e)
         look = looks v s t h hs ht e
 
-        lr : LR v (v .k .join (place os) (lev s e)) (v .k .join (place os) (lev t e))
+        lr : LR v (v .k .join (context os) (lev s e)) (v .k .join (context os) (lev t e))
         lr = branch-level v s t h hs ht os e g
 
-        opens : Seen v (v .k .join (place os) (lev s e))
-            → TR v (at-code (cond (not (is-zero (val s e))) p q) (in-branch (v .k .join (place os) (lev s e)) (not (is-zero (val s e))) p q c ∷ os))
-            (at-code (cond (not (is-zero (val t e))) p q) (in-branch (v .k .join (place os) (lev t e)) (not (is-zero (val t e))) p q c ∷ os))
+        opens : Seen v (v .k .join (context os) (lev s e))
+            → TR v (at-code (cond (not (is-zero (val s e))) p q) (in-branch (v .k .join (context os) (lev s e)) (not (is-zero (val s e))) p q c ∷ os))
+            (at-code (cond (not (is-zero (val t e))) p q) (in-branch (v .k .join (context os) (lev t e)) (not (is-zero (val t e))) p q c ∷ os))
         opens o = same
-            (ap₂ (λ (l : ℕ) (z : ℤ). at-code (cond (not (is-zero z)) p q) (in-branch l (not (is-zero z)) p q c ∷ os)) (lr .from-l o) (look .values (seen-right v (place-had v os g) (look .levels .had-l) o)))
+            (ap₂ (λ (l : ℕ) (z : ℤ). at-code (cond (not (is-zero z)) p q) (in-branch l (not (is-zero z)) p q c ∷ os)) (lr .from-l o) (look .values (seen-right v (context-had v os g) (look .levels .had-l) o)))
             (fits-branch e _ _ p q c f)
 
-        shuts : Hid v (v .k .join (place os) (lev s e))
-            → TR v (at-code (cond (not (is-zero (val s e))) p q) (in-branch (v .k .join (place os) (lev s e)) (not (is-zero (val s e))) p q c ∷ os))
-            (at-code (cond (not (is-zero (val t e))) p q) (in-branch (v .k .join (place os) (lev t e)) (not (is-zero (val t e))) p q c ∷ os))
+        shuts : Hid v (v .k .join (context os) (lev s e))
+            → TR v (at-code (cond (not (is-zero (val s e))) p q) (in-branch (v .k .join (context os) (lev s e)) (not (is-zero (val s e))) p q c ∷ os))
+            (at-code (cond (not (is-zero (val t e))) p q) (in-branch (v .k .join (context os) (lev t e)) (not (is-zero (val t e))) p q c ∷ os))
         shuts o =
-            let flat = even-of (even p && even q) (is-open (v .k .join (place os) (lev s e))) (hid-not-open v o) (not-barred _ _ r) in
-            let hp = within-p {y = record { p = p; q = q; next = c; rest = os }} (and-l (even p) (even q) flat) in
-            let hq = within-q {y = record { p = p; q = q; next = c; rest = os }} (and-r (even p) (even q) flat) in
-            apart (record { p = p; q = q; next = c; rest = os }) (suc (max (time p) (time q))) _ _ _ _ o (lr-hid-right v lr o) (fits-mask e p q c os f) (fits-next e p q c f)
-            (runs at-base (one-way (not (is-zero (val s e))) hp hq) (omega (arith, lag-time p q (not (is-zero (val s e))) flat)))
-            (runs at-base (one-way (not (is-zero (val t e))) hp hq) (omega (arith, lag-time p q (not (is-zero (val t e))) flat)))
+            let flat = even-of (fixed-time p && fixed-time q) (is-open (v .k .join (context os) (lev s e))) (hid-not-open v o) (not-barred _ _ r) in
+            let hp = within-p {y = record { p = p; q = q; next = c; rest = os }} (and-l (fixed-time p) (fixed-time q) flat) in
+            let hq = within-q {y = record { p = p; q = q; next = c; rest = os }} (and-r (fixed-time p) (fixed-time q) flat) in
+            apart (record { p = p; q = q; next = c; rest = os }) (suc (max (duration p) (duration q))) _ _ _ _ o (lr-hid-right v lr o) (fits-mask e p q c os f) (fits-next e p q c f)
+            (runs at-base (one-way (not (is-zero (val s e))) hp hq) (omega (arith, lag-duration p q (not (is-zero (val s e))) flat)))
+            (runs at-base (one-way (not (is-zero (val t e))) hp hq) (omega (arith, lag-duration p q (not (is-zero (val t e))) flat)))
 
     pub same-step : (c : Code) (r : Pace) (os : List Open) → HadStack v os → Fits c os → status-at (v .k) (v .sc) s i c r os ≡ ready
         → Alike v (step-at (v .k) (v .sc) s i c r os) (step-at (v .k) (v .sc) t i c r os)

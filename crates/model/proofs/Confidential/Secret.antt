@@ -8,9 +8,13 @@ use lib.Dec.{T}
 use lib.ListN.{getD, replicate}
 use Rattle.lattice.specs.Levels.{Levels, Lawful}
 use Rattle.script.specs.Code.{Code, Script}
-use Rattle.model.specs.Machine.{Cell, blank, ended, State, Meaning, Giver, at-code}
+use Rattle.model.specs.Values.{Cell, blank}
+use Rattle.model.specs.Threads.{ended, at-code}
+use Rattle.model.specs.Machine.{State}
+use Rattle.model.specs.Schedulers.{Meaning, Obedient}
 use Rattle.model.specs.Calls.{Call, Answer, begin, perform}
-use Rattle.model.specs.Secrecy.{Levelled, Secret, left-out, kept, kept-answers}
+use Rattle.model.specs.Levels.{Levelled}
+use Rattle.model.specs.Secrecy.{Secret, left-out, kept, kept-answers}
 use Rattle.model.proofs.Confidential.View.{View, Had, had-zero}
 use Rattle.model.proofs.Confidential.Agree.{agree-same}
 use Rattle.model.proofs.Confidential.Stack.{Guards, guards-nil}
@@ -51,9 +55,9 @@ module _ (v : View) where
     safe-r = begin-safe;
   }
 
-  module _ {G : Type 0} (give : Meaning G) (giver : Giver give) where
+  module _ {G : Type 0} (schedule : Meaning G) (giver : Obedient schedule) where
     abbrev does : Call → State → G → Answer × State × G
-    does = perform (v .k) (v .sc) give
+    does = perform (v .k) (v .sc) schedule
 
     abbrev out : Call → Bool
     out = left-out (v .seen) (v .sc)
@@ -62,7 +66,7 @@ module _ (v : View) where
     left = kept (v .seen) (v .sc)
 
     abbrev told : List Call → State → G → List Answer
-    told = kept-answers (v .k) (v .sc) give (v .seen)
+    told = kept-answers (v .k) (v .sc) schedule (v .seen)
 
     nothing-left : (ys : List Call) (t : State) (g : G) → _≡_ {A = List Call} [] (left ys) → _≡_ {A = List Answer} [] (told ys t g)
     nothing-left [] t g e = refl
@@ -83,7 +87,7 @@ module _ (v : View) where
       where
         hit : x ≡ y → left xs ≡ left ys → does x s g .0 ∷ told xs (does x s g .1) (does x s g .2) ≡ does y t g .0 ∷ told ys (does y t g .1) (does y t g .2)
         hit p q =
-            let r : Performed v give giver (does x s g) (does y t g) = subst (λ (c : Call). Performed v give giver (does x s g) (does c t g)) p (performed v give giver x s t g o h) in
+            let r : Performed v schedule giver (does x s g) (does y t g) = subst (λ (c : Call). Performed v schedule giver (does x s g) (does c t g)) p (performed v schedule giver x s t g o h) in
             ap₂ {B = List Answer} {C = List Answer} _∷_ (r .answer)
             (subst (λ (z : G). told xs (does x s g .1) (does x s g .2) ≡ told ys (does y t g .1) z) (r .givers) (ih ys _ _ _ (r .states) q))
 
@@ -91,7 +95,7 @@ module _ (v : View) where
             → ((t : State) → Pair v s t → x ∷ left xs ≡ left ys → does x s g .0 ∷ told xs (does x s g .1) (does x s g .2) ≡ told ys t g)
             → does x s g .0 ∷ told xs (does x s g .1) (does x s g .2) ≡ cond b (told ys (does y t g .1) (does y t g .2)) (does y t g .0 ∷ told ys (does y t g .1) (does y t g .2))
         go true p e f =
-            let u = unheard v give giver y t g p (h .safe-r) in
+            let u = unheard v schedule giver y t g p (h .safe-r) in
             subst (λ (z : G). does x s g .0 ∷ told xs (does x s g .1) (does x s g .2) ≡ told ys (does y t g .1) z) (sym (u .1)) (f _ (pair-right v h (u .0)) e)
         go false p e f = let p1 : x ≡ y = cc in let p2 : left xs ≡ left ys = cc in hit p1 p2
 
@@ -102,7 +106,7 @@ module _ (v : View) where
         go : (b : Bool) → out x ≡ b → cond b (left xs) (x ∷ left xs) ≡ left ys → Rest xs
             → cond b (told xs (does x s g .1) (does x s g .2)) (does x s g .0 ∷ told xs (does x s g .1) (does x s g .2)) ≡ told ys t g
         go true p e ih =
-            let u = unheard v give giver x s g p (h .safe-l) in
+            let u = unheard v schedule giver x s g p (h .safe-l) in
             subst (λ (z : G). told xs (does x s g .1) z ≡ told ys t g) (sym (u .1)) (ih ys _ t g (pair-left v h (u .0)) e)
         go false p e ih = find x xs ih p ys s t g h e
 
@@ -121,6 +125,6 @@ reader-view k sc law lev r h = record {
   down = λ a b ha hb f s. law .flows-trans a b r ha hb h f s;
 }
 
-pub secret : {k : Levels} {sc : Script} {G : Type 0} {give : Meaning G} → Lawful k → Levelled k sc → Giver give → Secret k sc give
+pub secret : {k : Levels} {sc : Script} {G : Type 0} {schedule : Meaning G} → Lawful k → Levelled k sc → Obedient schedule → Secret k sc schedule
 unfolding reader-view
-secret {k} {sc} {give = give} law lev giver reader h g xs ys e = secret-view (reader-view k sc law lev reader h) give giver g xs ys e
+secret {k} {sc} {schedule = schedule} law lev giver reader h g xs ys e = secret-view (reader-view k sc law lev reader h) schedule giver g xs ys e

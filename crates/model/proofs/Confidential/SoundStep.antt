@@ -7,9 +7,11 @@ use lib.Dec.{T}
 use lib.ListN.{getD, set, length-set}
 use Rattle.script.specs.Code.{Code}
 use Rattle.script.specs.Code.Code.{done, skip, assign, put, branch, loop, lock}
-use Rattle.model.specs.Machine.{Cell, blank, Open, Pace, Thread, ended, raise, State, at-code, close-branch, lag, do-put, step-at, step, place, value-of, is-zero}
-use Rattle.model.specs.Machine.Open.{in-branch, in-loop, in-lock}
-use Rattle.model.specs.Machine.Pace.{running, idling}
+use Rattle.model.specs.Values.{Cell, blank, is-zero}
+use Rattle.model.specs.Threads.{Open, Pace, Thread, ended, at-code, context}
+use Rattle.model.specs.Machine.{raise, State, close-branch, lag, do-put, step-at, step, value-of}
+use Rattle.model.specs.Threads.Open.{in-branch, in-loop, in-lock}
+use Rattle.model.specs.Threads.Pace.{running, idling}
 use Rattle.model.proofs.Confidential.Slots.{set-pred, cond-ind}
 use Rattle.model.proofs.Confidential.View.{View, Had, Seen, seen-left, seen-right, join-had, had-zero}
 use Rattle.model.proofs.Confidential.Agree.{HadCells, level-had}
@@ -18,11 +20,11 @@ use Rattle.model.proofs.Confidential.Stack.In.{here, there}
 use Rattle.model.proofs.Confidential.Raise.{raise-long, raise-pred, raise-marked}
 
 module _ (v : View) where
-  pub place-had : (os : List Open) → HadStack v os → Had v (place os)
-  place-had [] h = had-zero v
-  place-had (in-branch l w p q n ∷ os) h = h .at here
-  place-had (in-loop e b n ∷ os) h = place-had os (record { at = λ m. h .at (there m) })
-  place-had (in-lock m n ∷ os) h = place-had os (record { at = λ m. h .at (there m) })
+  pub context-had : (os : List Open) → HadStack v os → Had v (context os)
+  context-had [] h = had-zero v
+  context-had (in-branch l w p q n ∷ os) h = h .at here
+  context-had (in-loop e b n ∷ os) h = context-had os (record { at = λ m. h .at (there m) })
+  context-had (in-lock m n ∷ os) h = context-had os (record { at = λ m. h .at (there m) })
 
   pub sound-thread : {cs : List Cell} {ts : List Thread} (i : ℕ) (t : Thread) → Sound v cs ts → Guards v cs (t .inside) → Sound v cs (set ts i t)
   sound-thread {cs} {ts} i t h g = record {
@@ -86,9 +88,9 @@ module _ (v : View) where
       (λ j l p q m y z. guard-over v x j (s .threads) 0 m y (λ j. h .guards j .had) (had-zero v) (seen-right v la hg z)) in
       sound-thread i _ r (subst (Guards v _) e (r .guards i))
   sound-at s i (put n a c) running os e h g =
-      cond-ind (λ (u : State). Sound v (u .cells) (set (u .threads) i (at-code c os))) (v .k .flows (place os) _) _ _ (λ _. sound-thread i _ h g) (λ _. sound-thread i _ h g)
+      cond-ind (λ (u : State). Sound v (u .cells) (set (u .threads) i (at-code c os))) (v .k .flows (context os) _) _ _ (λ _. sound-thread i _ h g) (λ _. sound-thread i _ h g)
   sound-at s i (branch a p q c) running os e h g =
-      let hl = join-had v (place-had os (g .had)) (level-had v s (h .cells) a) in
+      let hl = join-had v (context-had os (g .had)) (level-had v s (h .cells) a) in
       let r = sound-raise (s .cells) (s .threads) (λ x. assigned x p q) _ h hl in
       sound-thread i _ r (guards-entered (s .cells) os _ _ p q c (h .cells) hl (subst (Guards v _) e (r .guards i)))
   sound-at s i (loop a b c) running os e h g = sound-thread i _ h (cond-ind (λ (t : Thread). Guards v (s .cells) (t .inside)) (is-zero (value-of (v .k) (v .sc) s a)) _ _ (λ _. g) (λ _. guards-loop v a b c g))

@@ -7,9 +7,10 @@ use lib.Dec.{T}
 use lib.ListN.{length, getD}
 use Rattle.codec.specs.Expressions.{Expr}
 use Rattle.script.specs.Code.{Code}
-use Rattle.model.specs.Code.{assigns}
-use Rattle.model.specs.Machine.{Cell, blank, Open, Thread, ended, guard-of, guard}
-use Rattle.model.specs.Machine.Open.{in-branch, in-loop, in-lock}
+use Rattle.model.specs.Stretches.{assigns}
+use Rattle.model.specs.Values.{Cell, blank}
+use Rattle.model.specs.Threads.{Open, Thread, ended, guard-of, guard}
+use Rattle.model.specs.Threads.Open.{in-branch, in-loop, in-lock}
 use Rattle.model.proofs.Confidential.Slots.{cond-ind, T-true}
 use Rattle.model.proofs.Confidential.View.{View, Had, Seen, seen-left, seen-right, join-had}
 use Rattle.model.proofs.Confidential.Agree.{HadCells}

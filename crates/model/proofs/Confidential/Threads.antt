@@ -8,12 +8,12 @@ use native.Mathlib.Omega.{arith}
 use lib.Dec.{T}
 use lib.ListN.{length, getD}
 use lib.Bits.{bitOr}
-use Rattle.model.specs.Level.{is-open}
+use Rattle.model.specs.Levels.{is-open}
 use Rattle.script.specs.Code.{Code}
-use Rattle.model.specs.Code.{needs}
+use Rattle.model.specs.Stretches.{needs}
 use Rattle.script.specs.Code.Code.{loop}
-use Rattle.model.specs.Machine.{Open, Thread, ended, guard-of, guard, against, held-by, place, owned, reserved}
-use Rattle.model.specs.Machine.Open.{in-branch, in-loop, in-lock}
+use Rattle.model.specs.Threads.{Open, Thread, ended, guard-of, guard, against, held-by, context, owned, reserved}
+use Rattle.model.specs.Threads.Open.{in-branch, in-loop, in-lock}
 use Rattle.model.proofs.Confidential.Masks.{Lies, lies-left}
 use Rattle.model.proofs.Confidential.Slots.{either-way}
 use Rattle.model.proofs.Confidential.View.{View, Had, Hid, LR, lr-same, lr-join, lr-hid, hid-not-open}
@@ -23,7 +23,7 @@ use Rattle.model.proofs.Confidential.Quiet.{Way, base, mask, Above, Quiet, abo
 
 -- At a place that is not open, the locks that a stretch names are reserved.
 pub record Fit (c : Code) (os : List Open) : Type 0 where
-  pub is : (T (is-open (place os)) → ⊥) → Lies (needs c) (reserved os)
+  pub is : (T (is-open (context os)) → ⊥) → Lies (needs c) (reserved os)
 
 abbrev pub FitIn : List Open → Type 0
 FitIn [] = Unit {0}
@@ -36,7 +36,7 @@ pub record Fits (c : Code) (os : List Open) : Type 0 where
   pub deep : FitIn os
 
 pub record FitMask (y : Way) : Type 0 where
-  pub is : (T (is-open (place (y .rest))) → ⊥) → Lies (mask y) (reserved (y .rest))
+  pub is : (T (is-open (context (y .rest))) → ⊥) → Lies (mask y) (reserved (y .rest))
 
 pub data TR (v : View) (t u : Thread) : Type 0 where
   same : t ≡ u → Fits (t .code) (t .inside) → TR v t u
@@ -45,10 +45,10 @@ pub data TR (v : View) (t u : Thread) : Type 0 where
 
 -- What the outermost hidden branch makes the reserved locks.
 abbrev kept-locks : Way → ℕ
-kept-locks y = bitOr (cond (is-open (place (y .rest))) (mask y) 0) (reserved (y .rest))
+kept-locks y = bitOr (cond (is-open (context (y .rest))) (mask y) 0) (reserved (y .rest))
 
 mask-kept : (y : Way) → FitMask y → Lies (mask y) (kept-locks y)
-mask-kept y h = go (is-open (place (y .rest))) (h .is)
+mask-kept y h = go (is-open (context (y .rest))) (h .is)
   where
     go : (b : Bool) → ((T b → ⊥) → Lies (mask y) (reserved (y .rest))) → Lies (mask y) (bitOr (cond b (mask y) 0) (reserved (y .rest)))
     go true f = lies-left (mask y) (reserved (y .rest))
@@ -56,7 +56,7 @@ mask-kept y h = go (is-open (place (y .rest))) (h .is)
 
 module _ (v : View) where
   base-reserved : (y : Way) {l : ℕ} (w : Bool) → Hid v l → reserved (base y l w) ≡ kept-locks y
-  base-reserved y {l} w h = ap (λ (b : Bool). bitOr (cond (is-open (place (y .rest)) && not b) (mask y) 0) (reserved (y .rest))) (hid-not-open v h) ∙ go (is-open (place (y .rest)))
+  base-reserved y {l} w h = ap (λ (b : Bool). bitOr (cond (is-open (context (y .rest)) && not b) (mask y) 0) (reserved (y .rest))) (hid-not-open v h) ∙ go (is-open (context (y .rest)))
     where
       go : (b : Bool) → bitOr (cond (b && true) (mask y) 0) (reserved (y .rest)) ≡ bitOr (cond b (mask y) 0) (reserved (y .rest))
       go true = refl

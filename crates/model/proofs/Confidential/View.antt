@@ -7,9 +7,8 @@ use Prim.Native.Nat.{ℕ, zero, suc}
 use lib.Dec.{T, eqb→eq}
 use lib.ListN.{getD}
 use Rattle.lattice.specs.Levels.{Levels, Lawful}
-use Rattle.model.specs.Level.{is-open}
+use Rattle.model.specs.Levels.{is-open, Levelled, all-had}
 use Rattle.script.specs.Code.{Script}
-use Rattle.model.specs.Secrecy.{Levelled, all-had}
 use Rattle.model.proofs.Confidential.Slots.{T-false, either-way}
 
 pub record View : Type 0 where

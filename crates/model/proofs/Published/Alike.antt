@@ -13,7 +13,8 @@ use Rattle.model.specs.Automaton.{Q, Pool, Input, Output, apart, without, meet
 use Rattle.model.specs.Automaton.Input.{at-branch, at-merge, at-sync, at-skip, at-assign, at-output}
 use Rattle.model.specs.Automaton.Output.{ok, no, default}
 use Rattle.model.specs.Follows.{Same}
-use Rattle.model.specs.Together.{reads, note, go-on, hears}
+use Rattle.model.specs.Together.{note, go-on, hears}
+use Rattle.model.proofs.Published.Names.{reads}
 use Rattle.model.proofs.Unaltered.Tests.{and-left, and-right}
 use Rattle.model.proofs.Published.Sound.{clear}
 

@@ -9,14 +9,17 @@ use lib.ListN.{getD, set, length}
 use lib.Bits.{bitOr, or-comm}
 use lib.IntN.{pos, negsuc}
 use Rattle.codec.specs.Expressions.Op.{constant, variable, sample, held, binary, unary}
-use Rattle.model.specs.Level.{is-open}
+use Rattle.model.specs.Levels.{is-open}
 use Rattle.codec.specs.Expressions.{Expr}
 use Rattle.script.specs.Code.{Code, Script}
-use Rattle.model.specs.Code.{assigns, needs, even, is-literal-one}
+use Rattle.model.specs.Stretches.{assigns, needs, fixed-time, is-literal-one}
 use Rattle.script.specs.Code.Code.{done, skip, assign, put, branch, loop, lock}
-use Rattle.model.specs.Machine.{Cell, blank, Open, Thread, ended, State, owned, reserved, against, is-zero, value-of}
+use Rattle.model.specs.Values.{Cell, blank, is-zero}
+use Rattle.model.specs.Threads.{Open, Thread, ended, owned, reserved, against}
+use Rattle.model.specs.Machine.{State, value-of}
 use Rattle.model.specs.Automaton.{Q, Pool, apart, stops, either-defines, either-needs, with-w, update}
-use Rattle.model.specs.Follows.{two, counted, assigning, all-reserved, word, pool, Same, owned-by, others, asked}
+use Rattle.lattice.specs.Orders.{two-point}
+use Rattle.model.specs.Follows.{counted, assigning, all-reserved, word, pool, Same, owned-by, others, asked}
 use Rattle.model.proofs.Unaltered.Tests.{by-test, is-true, and-left, and-right}
 use Rattle.model.proofs.Published.Masks.{test, test-or, test-and, test-xor, mask-ext, differs, apart-bits, bits-apart}
 use Rattle.model.proofs.Published.Locks.{holds, or-left, or-right, of-others, against-split, owned-found, owned-shown, others-found, others-shown, reserved-still}
@@ -90,25 +93,25 @@ ways-need true p q = refl
 ways-need false p q = or-comm (needs q) (needs p)
 
 -- What is even does not stop.
-even-goes : (c : Code) → T (even c) → stops c ≡ false
-even-goes done h = refl
-even-goes (skip c) h = even-goes c h
-even-goes (assign x e c) h = even-goes c h
-even-goes (put x e c) h = even-goes c h
-even-goes (branch e p q c) h =
-    let l = and-left (even p && even q) (even c) h in
-    rw (even-goes p (and-left (even p) (even q) l), even-goes q (and-right (even p) (even q) l), even-goes c (and-right (even p && even q) (even c) h))
-even-goes (loop e b c) h = absurd h
-even-goes (lock m e b c) h =
-    let l = and-left (is-literal-one e && even b) (even c) h in
-    rw (is-true (is-literal-one e) (and-left (is-literal-one e) (even b) l), even-goes c (and-right (is-literal-one e && even b) (even c) h))
+fixed-goes : (c : Code) → T (fixed-time c) → stops c ≡ false
+fixed-goes done h = refl
+fixed-goes (skip c) h = fixed-goes c h
+fixed-goes (assign x e c) h = fixed-goes c h
+fixed-goes (put x e c) h = fixed-goes c h
+fixed-goes (branch e p q c) h =
+    let l = and-left (fixed-time p && fixed-time q) (fixed-time c) h in
+    rw (fixed-goes p (and-left (fixed-time p) (fixed-time q) l), fixed-goes q (and-right (fixed-time p) (fixed-time q) l), fixed-goes c (and-right (fixed-time p && fixed-time q) (fixed-time c) h))
+fixed-goes (loop e b c) h = absurd h
+fixed-goes (lock m e b c) h =
+    let l = and-left (is-literal-one e && fixed-time b) (fixed-time c) h in
+    rw (is-true (is-literal-one e) (and-left (is-literal-one e) (fixed-time b) l), fixed-goes c (and-right (is-literal-one e && fixed-time b) (fixed-time c) h))
 
-pub ways-go : (w : Bool) (p q : Code) → T (even p && even q) → stops (cond w p q) || stops (cond w q p) ≡ false
-ways-go true p q h = rw (even-goes p (and-left (even p) (even q) h), even-goes q (and-right (even p) (even q) h))
-ways-go false p q h = rw (even-goes p (and-left (even p) (even q) h), even-goes q (and-right (even p) (even q) h))
+pub ways-go : (w : Bool) (p q : Code) → T (fixed-time p && fixed-time q) → stops (cond w p q) || stops (cond w q p) ≡ false
+ways-go true p q h = rw (fixed-goes p (and-left (fixed-time p) (fixed-time q) h), fixed-goes q (and-right (fixed-time p) (fixed-time q) h))
+ways-go false p q h = rw (fixed-goes p (and-left (fixed-time p) (fixed-time q) h), fixed-goes q (and-right (fixed-time p) (fixed-time q) h))
 
 -- Literal one is true.
-pub literal-true : (sc : Script) (s : State) (e : Expr) → T (is-literal-one e) → is-zero (value-of two sc s e) ≡ false
+pub literal-true : (sc : Script) (s : State) (e : Expr) → T (is-literal-one e) → is-zero (value-of two-point sc s e) ≡ false
 literal-true sc s [] h = absurd h
 literal-true sc s (constant (pos n) ∷ []) h = rw (eqb→eq n 1 h)
 literal-true sc s (constant (negsuc n) ∷ []) h = absurd h

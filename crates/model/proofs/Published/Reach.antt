@@ -8,21 +8,24 @@ use native.Mathlib.Omega.{arith}
 use lib.Dec.{T, eqb, eqb→eq, eqb·suc-zero, leb}
 use lib.ListN.{getD, set, length, length-set, length-replicate}
 use lib.Bits.{bitOr}
-use Rattle.model.specs.Level.{is-open}
+use Rattle.model.specs.Levels.{is-open}
 use Rattle.codec.specs.Expressions.{Expr}
 use Rattle.script.specs.Code.{Code, Script}
-use Rattle.model.specs.Code.{assigns, needs, even}
+use Rattle.model.specs.Stretches.{assigns, needs, fixed-time}
 use Rattle.script.specs.Code.Code.{done, skip, assign, put, branch, loop, lock}
-use Rattle.model.specs.Machine.{Cell, blank, Open, Pace, Thread, ended, Channel, State, place, owned, reserved, against, clash, guard, is-zero, level-of, value-of, choose-status, status-at, is-ready, raise, lag, at-code, at-idle, close-branch, set-channel, do-put, step-at}
-use Rattle.model.specs.Machine.Open.{in-branch, in-loop, in-lock}
-use Rattle.model.specs.Machine.Pace.{running, idling}
+use Rattle.model.specs.Values.{Cell, blank, is-zero}
+use Rattle.model.specs.Threads.{Open, Pace, Thread, ended, context, owned, reserved, against, clash, guard, at-code, at-idle}
+use Rattle.model.specs.Machine.{Channel, State, level-of, value-of, choose-status, status-at, is-ready, raise, lag, close-branch, set-channel, do-put, step-at}
+use Rattle.model.specs.Threads.Open.{in-branch, in-loop, in-lock}
+use Rattle.model.specs.Threads.Pace.{running, idling}
 use Rattle.model.specs.Calls.{begin}
 use Rattle.model.specs.Automaton.{apart}
-use Rattle.model.specs.Follows.{two, outermost, counted, assigning, Reached}
+use Rattle.lattice.specs.Orders.{two-point}
+use Rattle.model.specs.Follows.{outermost, counted, assigning, Reached}
 use Rattle.model.specs.Follows.Reached.{start, turn, rest, fed}
 use Rattle.model.proofs.Unaltered.Tests.{by-test, is-true, and-left, and-right, and-false, or-cases, set-all}
 use Rattle.model.proofs.Published.Masks.{test, test-or, test-zero, apart-bits}
-use Rattle.model.proofs.Published.Opens.{open-max, not-not}
+use Rattle.model.proofs.Published.Opens.{open-join, not-not}
 use Rattle.model.proofs.Published.Locks.{holds, or-left, or-right, against-shown}
 use Rattle.model.proofs.Published.Sound.{Bound, Sound, Good, Kept, clear, guard-assigning, assigning-still, assigning-fewer, set-get, set-either, within-done, within-assign, within-next, within-body, within-after, within-locks, or-in-right}
 
@@ -32,24 +35,24 @@ and-true false = refl
 
 -- Raised cells
 
-pub length-raise : (marked : ℕ → Bool) (l x : ℕ) (cs : List Cell) → length (raise two marked l x cs) ≡ length cs
+pub length-raise : (marked : ℕ → Bool) (l x : ℕ) (cs : List Cell) → length (raise two-point marked l x cs) ≡ length cs
 length-raise marked l x [] = refl
 length-raise marked l x (c ∷ cs) = ap suc (length-raise marked l (suc x) cs)
 
-raise-from : (marked : ℕ → Bool) (l x : ℕ) (cs : List Cell) (y : ℕ) → y < length cs → is-open (getD (raise two marked l x cs) y blank .level) ≡ is-open (getD cs y blank .level) && not (marked (x + y) && not (is-open l))
+raise-from : (marked : ℕ → Bool) (l x : ℕ) (cs : List Cell) (y : ℕ) → y < length cs → is-open (getD (raise two-point marked l x cs) y blank .level) ≡ is-open (getD cs y blank .level) && not (marked (x + y) && not (is-open l))
 raise-from marked l x [] y h = absurd (omega arith)
 raise-from marked l x (c ∷ cs) zero h =
     let e : x + 0 ≡ x = omega arith in
     rw e (pick (marked x))
   where
-    pick : (b : Bool) → is-open ((cond b (record { value = c .value; level = max (c .level) l }) c) .level) ≡ is-open (c .level) && not (b && not (is-open l))
-    pick true = open-max (c .level) l ∙ ap (λ (b : Bool). is-open (c .level) && b) (sym (not-not (is-open l)))
+    pick : (b : Bool) → is-open ((cond b (record { value = c .value; level = two-point .join (c .level) l }) c) .level) ≡ is-open (c .level) && not (b && not (is-open l))
+    pick true = open-join (c .level) l ∙ ap (λ (b : Bool). is-open (c .level) && b) (sym (not-not (is-open l)))
     pick false = sym (and-true (is-open (c .level)))
 raise-from marked l x (c ∷ cs) (suc y) h =
     let e : x + suc y ≡ suc x + y = omega arith in
     rw e (raise-from marked l (suc x) cs y (omega arith))
 
-pub raise-at : (marked : ℕ → Bool) (l : ℕ) (cs : List Cell) (y : ℕ) → y < length cs → is-open (getD (raise two marked l 0 cs) y blank .level) ≡ is-open (getD cs y blank .level) && not (marked y && not (is-open l))
+pub raise-at : (marked : ℕ → Bool) (l : ℕ) (cs : List Cell) (y : ℕ) → y < length cs → is-open (getD (raise two-point marked l 0 cs) y blank .level) ≡ is-open (getD cs y blank .level) && not (marked y && not (is-open l))
 raise-at marked l cs y h =
     let e : 0 + y ≡ y = omega arith in
     raise-from marked l 0 cs y h ∙ ap (λ (n : ℕ). is-open (getD cs y blank .level) && not (marked n && not (is-open l))) e
@@ -109,17 +112,17 @@ cond-less : (b : Bool) (n : ℕ) → n ≤ cond b (suc n) n
 cond-less true n = omega arith
 cond-less false n = omega arith
 
-pub put-cells : (sc : Script) (s : State) (i h : ℕ) (e : Expr) (os : List Open) → do-put two sc s i h e os .cells ≡ s .cells
+pub put-cells : (sc : Script) (s : State) (i h : ℕ) (e : Expr) (os : List Open) → do-put two-point sc s i h e os .cells ≡ s .cells
 unfolding do-put
-put-cells sc s i h e os = go (leb (place os) (getD (sc .channel-levels) h 0)) _
+put-cells sc s i h e os = go (leb (context os) (getD (sc .channel-levels) h 0)) _
   where
     go : (b : Bool) (ch : Channel) → cond b (set-channel s h ch) s .cells ≡ s .cells
     go true ch = refl
     go false ch = refl
 
-pub put-threads : (sc : Script) (s : State) (i h : ℕ) (e : Expr) (os : List Open) → do-put two sc s i h e os .threads ≡ s .threads
+pub put-threads : (sc : Script) (s : State) (i h : ℕ) (e : Expr) (os : List Open) → do-put two-point sc s i h e os .threads ≡ s .threads
 unfolding do-put
-put-threads sc s i h e os = go (leb (place os) (getD (sc .channel-levels) h 0)) _
+put-threads sc s i h e os = go (leb (context os) (getD (sc .channel-levels) h 0)) _
   where
     go : (b : Bool) (ch : Channel) → cond b (set-channel s h ch) s .threads ≡ s .threads
     go true ch = refl
@@ -137,16 +140,16 @@ need-fact n need r true false e h f = rw (test-or n need r) (or-left (test n nee
 need-fact n need r true true e h f = clear true tt e
 need-fact n need r false lo e h f = f refl
 
-way-bound : (l : ℕ) (w : Bool) (p q next c : Code) (os : List Open) → Sound (in-branch l w p q next ∷ os) → ((x : ℕ) → T (assigns x c) → T (assigns x p || assigns x q)) → ((n : ℕ) → T (test n (needs c)) → T (test n (bitOr (needs p) (needs q)))) → (T (even p && even q) → T (even c)) → Bound c (in-branch l w p q next ∷ os)
+way-bound : (l : ℕ) (w : Bool) (p q next c : Code) (os : List Open) → Sound (in-branch l w p q next ∷ os) → ((x : ℕ) → T (assigns x c) → T (assigns x p || assigns x q)) → ((n : ℕ) → T (test n (needs c)) → T (test n (bitOr (needs p) (needs q)))) → (T (fixed-time p && fixed-time q) → T (fixed-time c)) → Bound c (in-branch l w p q next ∷ os)
 way-bound l w p q next c os h f g k o = (
-  (λ x a. in-fact (counted x os) (is-open (place os)) (is-open l) (assigns x p || assigns x q) o (f x a) (λ z. h .2 z .0 x (or-left (assigns x p || assigns x q) (assigns x next) (f x a)))),
-  (λ n a. need-fact n (bitOr (needs p) (needs q)) (reserved os) (is-open (place os)) (is-open l) o (g n a) (λ z. h .2 z .1 n (rw (test-or n (bitOr (needs p) (needs q)) (needs next)) (or-left (test n (bitOr (needs p) (needs q))) (test n (needs next)) (g n a))))),
+  (λ x a. in-fact (counted x os) (is-open (context os)) (is-open l) (assigns x p || assigns x q) o (f x a) (λ z. h .2 z .0 x (or-left (assigns x p || assigns x q) (assigns x next) (f x a)))),
+  (λ n a. need-fact n (bitOr (needs p) (needs q)) (reserved os) (is-open (context os)) (is-open l) o (g n a) (λ z. h .2 z .1 n (rw (test-or n (bitOr (needs p) (needs q)) (needs next)) (or-left (test n (bitOr (needs p) (needs q))) (test n (needs next)) (g n a))))),
   k (h .1 o),
 )
 
 ways-bound : (l : ℕ) (w : Bool) (p q next : Code) (os : List Open) → Sound (in-branch l w p q next ∷ os) → (v : Bool) → Bound (cond v p q) (in-branch l w p q next ∷ os)
-ways-bound l w p q next os h true = way-bound l w p q next p os h (λ x a. or-left (assigns x p) (assigns x q) a) (λ n a. rw (test-or n (needs p) (needs q)) (or-left (test n (needs p)) (test n (needs q)) a)) (λ a. and-left (even p) (even q) a)
-ways-bound l w p q next os h false = way-bound l w p q next q os h (λ x a. or-right (assigns x p) (assigns x q) a) (λ n a. rw (test-or n (needs p) (needs q)) (or-right (test n (needs p)) (test n (needs q)) a)) (λ a. and-right (even p) (even q) a)
+ways-bound l w p q next os h true = way-bound l w p q next p os h (λ x a. or-left (assigns x p) (assigns x q) a) (λ n a. rw (test-or n (needs p) (needs q)) (or-left (test n (needs p)) (test n (needs q)) a)) (λ a. and-left (fixed-time p) (fixed-time q) a)
+ways-bound l w p q next os h false = way-bound l w p q next q os h (λ x a. or-right (assigns x p) (assigns x q) a) (λ n a. rw (test-or n (needs p) (needs q)) (or-right (test n (needs p)) (test n (needs q)) a)) (λ a. and-right (fixed-time p) (fixed-time q) a)
 
 implied : (a b : Bool) → not a && not b ≡ false → b ≡ false → T a
 implied true b e h = tt
@@ -156,21 +159,21 @@ implied false false e h = clear true tt e
 module _ (sc : Script) (s : State) (K : Kept (sc .variables) (s .cells) (s .threads)) (i : ℕ) where
   -- What a branch that is ready has about it.
   pub record Enter (e : Expr) (p q c : Code) (os : List Open) (w : Bool) : Type 0 where
-    pub sound : Sound (in-branch (max (place os) (level-of two sc s e)) w p q c ∷ os)
-    pub free : T (outermost (max (place os) (level-of two sc s e)) os) → T (apart (bitOr (needs p) (needs q)) (against i (s .threads)))
+    pub sound : Sound (in-branch (two-point .join (context os) (level-of two-point sc s e)) w p q c ∷ os)
+    pub free : T (outermost (two-point .join (context os) (level-of two-point sc s e)) os) → T (apart (bitOr (needs p) (needs q)) (against i (s .threads)))
 
-  pub enter : (e : Expr) (p q c : Code) (os : List Open) (w : Bool) → Sound os → Bound (branch e p q c) os → T (is-ready (status-at two sc s i (branch e p q c) running os)) → Enter e p q c os w
+  pub enter : (e : Expr) (p q c : Code) (os : List Open) (w : Bool) → Sound os → Bound (branch e p q c) os → T (is-ready (status-at two-point sc s i (branch e p q c) running os)) → Enter e p q c os w
   enter e p q c os w so bo r = record {
     sound = (
-      (λ o. and-left (is-open (place os)) (is-open (level-of two sc s e)) (subst T (open-max (place os) (level-of two sc s e)) o)),
-      implied (even p && even q) (is-open (max (place os) (level-of two sc s e))) (parts .0),
+      (λ o. and-left (is-open (context os)) (is-open (level-of two-point sc s e)) (subst T (open-join (context os) (level-of two-point sc s e)) o)),
+      implied (fixed-time p && fixed-time q) (is-open (two-point .join (context os) (level-of two-point sc s e))) (parts .0),
       bo,
       so,
     );
-    free = free (outermost (max (place os) (level-of two sc s e)) os) (apart (bitOr (needs p) (needs q)) (against i (s .threads))) (parts .1);
+    free = free (outermost (two-point .join (context os) (level-of two-point sc s e)) os) (apart (bitOr (needs p) (needs q)) (against i (s .threads))) (parts .1);
   }
     where
-      parts : (not (even p && even q) && not (is-open (max (place os) (level-of two sc s e))) ≡ false) × (outermost (max (place os) (level-of two sc s e)) os && clash (bitOr (needs p) (needs q)) (against i (s .threads)) ≡ false)
+      parts : (not (fixed-time p && fixed-time q) && not (is-open (two-point .join (context os) (level-of two-point sc s e))) ≡ false) × (outermost (two-point .join (context os) (level-of two-point sc s e)) os && clash (bitOr (needs p) (needs q)) (against i (s .threads)) ≡ false)
       parts = ready-parts _ _ r
 
       free : (a b : Bool) → a && not b ≡ false → T a → T b
@@ -195,8 +198,8 @@ module _ (sc : Script) (s : State) (K : Kept (sc .variables) (s .cells) (s .thre
     closed l w p q next outer e h (suc left) =
         kept-less K i (at-idle left (in-branch l w p q next ∷ outer)) (h, (λ o. within-done (in-branch l w p q next ∷ outer))) (in-branch l w p q next ∷ outer) (ins ∙ e) (λ k a. a) (λ x. omega arith)
 
-  pub step-kept : (c : Code) (pace : Pace) (os : List Open) → getD (s .threads) i ended .inside ≡ os → Sound os → Bound c os → T (is-ready (status-at two sc s i c pace os)) →
-      Kept (sc .variables) (step-at two sc s i c pace os .cells) (step-at two sc s i c pace os .threads)
+  pub step-kept : (c : Code) (pace : Pace) (os : List Open) → getD (s .threads) i ended .inside ≡ os → Sound os → Bound c os → T (is-ready (status-at two-point sc s i c pace os)) →
+      Kept (sc .variables) (step-at two-point sc s i c pace os .cells) (step-at two-point sc s i c pace os .threads)
   unfolding step-at
   step-kept c (idling n) [] ins so bo r = K
   step-kept c (idling n) (in-branch l w p q next ∷ os) ins so bo r = closed (in-branch l w p q next ∷ os) ins l w p q next os refl so n
@@ -216,7 +219,7 @@ module _ (sc : Script) (s : State) (K : Kept (sc .variables) (s .cells) (s .thre
       (λ y l f. raised y l (sym (assigning-still y (s .threads) i (at-code c os) (ap (counted y) ins)) ∙ refl) f)
     where
       cell : Cell
-      cell = record { value = value-of two sc s e; level = max (level-of two sc s e) (guard two x (s .threads) 0) }
+      cell = record { value = value-of two-point sc s e; level = two-point .join (level-of two-point sc s e) (guard two-point x (s .threads) 0) }
 
       raised : (y : ℕ) → y < sc .variables → assigning y (s .threads) ≡ assigning y (set (s .threads) i (at-code c os)) → eqb (assigning y (set (s .threads) i (at-code c os))) 0 ≡ false → is-open (getD (set (s .cells) x cell) y blank .level) ≡ false
       raised y l same f =
@@ -228,17 +231,17 @@ module _ (sc : Script) (s : State) (K : Kept (sc .variables) (s .cells) (s .thre
 
           go : (b : Bool) → (T b → y ≡ x) → is-open ((cond b cell (getD (s .cells) y blank)) .level) ≡ false
           go true h =
-              open-max (level-of two sc s e) (guard two x (s .threads) 0)
-              ∙ ap (λ (b : Bool). is-open (level-of two sc s e) && b) (guard-assigning x (s .threads) 0 (K .good) ∙ ap (λ (z : ℕ). eqb (assigning z (s .threads)) 0) (sym (h tt)) ∙ before)
-              ∙ and-false (is-open (level-of two sc s e))
+              open-join (level-of two-point sc s e) (guard two-point x (s .threads) 0)
+              ∙ ap (λ (b : Bool). is-open (level-of two-point sc s e) && b) (guard-assigning x (s .threads) 0 (K .good) ∙ ap (λ (z : ℕ). eqb (assigning z (s .threads)) 0) (sym (h tt)) ∙ before)
+              ∙ and-false (is-open (level-of two-point sc s e))
           go false h = K .raised y l before
   step-kept (put h e c) running os ins so bo r =
       rw (put-cells sc s i h e os, put-threads sc s i h e os) (kept-less K i (at-code c os) (so, bo) os ins (λ k a. a) (λ x. omega arith))
   step-kept (branch e p q c) running os ins so bo r =
-      let way = not (is-zero (value-of two sc s e)) in
-      let l = max (place os) (level-of two sc s e) in
+      let way = not (is-zero (value-of two-point sc s e)) in
+      let l = two-point .join (context os) (level-of two-point sc s e) in
       let E = enter e p q c os way so bo r in
-      kept-set K i (at-code (cond way p q) (in-branch l way p q c ∷ os)) (E .sound, ways-bound l way p q c os (E .sound) way) (raise two (λ x. assigns x p || assigns x q) l 0 (s .cells)) (length-raise (λ x. assigns x p || assigns x q) l 0 (s .cells) ∙ K .long)
+      kept-set K i (at-code (cond way p q) (in-branch l way p q c ∷ os)) (E .sound, ways-bound l way p q c os (E .sound) way) (raise two-point (λ x. assigns x p || assigns x q) l 0 (s .cells)) (length-raise (λ x. assigns x p || assigns x q) l 0 (s .cells) ∙ K .long)
       (λ k j h hj.
       or-cases (test k (owned os)) (test k (bitOr (cond (outermost l os) (bitOr (needs p) (needs q)) 0) (reserved os)))
       (λ a. mine os ins k j (or-left _ _ a) hj)
@@ -252,7 +255,7 @@ module _ (sc : Script) (s : State) (K : Kept (sc .variables) (s .cells) (s .thre
       by-test ((assigns y p || assigns y q) && not (is-open l))
       (λ a. at ∙ ap (λ (b : Bool). is-open (getD (s .cells) y blank .level) && not b) (is-true ((assigns y p || assigns y q) && not (is-open l)) a) ∙ and-false (is-open (getD (s .cells) y blank .level)))
       (λ g.
-      let same = assigning-still y (s .threads) i (at-code (cond way p q) (in-branch l way p q c ∷ os)) (ap (counted y) ins ∙ sym (unmoved (is-open (place os)) (is-open l) (assigns y p || assigns y q) (counted y os) g)) in
+      let same = assigning-still y (s .threads) i (at-code (cond way p q) (in-branch l way p q c ∷ os)) (ap (counted y) ins ∙ sym (unmoved (is-open (context os)) (is-open l) (assigns y p || assigns y q) (counted y os) g)) in
       at ∙ ap (λ (b : Bool). b && not ((assigns y p || assigns y q) && not (is-open l))) (K .raised y h (ap (λ (k : ℕ). eqb k 0) (sym same) ∙ f))))
     where
       picked : (need k : ℕ) (b : Bool) → T (test k (cond b need 0)) → T b × T (test k need)
@@ -264,7 +267,7 @@ module _ (sc : Script) (s : State) (K : Kept (sc .variables) (s .cells) (s .thre
       unmoved true false true n g = clear true tt g
       unmoved true false false n g = refl
       unmoved false lo m n g = refl
-  step-kept (loop e b c) running os ins so bo r = go (is-zero (value-of two sc s e))
+  step-kept (loop e b c) running os ins so bo r = go (is-zero (value-of two-point sc s e))
     where
       go : (z : Bool) → Kept (sc .variables) (s .cells) (set (s .threads) i (cond z (at-code c os) (at-code b (in-loop e b c ∷ os))))
       go true = kept-less K i (at-code c os) (so, (λ o. absurd (bo o .2))) os ins (λ k a. a) (λ x. omega arith)
@@ -274,8 +277,8 @@ module _ (sc : Script) (s : State) (K : Kept (sc .variables) (s .cells) (s .thre
       (λ k j h hj.
       or-cases (test k (bitOr m (owned os))) (test k (reserved os))
       (λ a. or-cases (test k m) (test k (owned os))
-      (λ u. by-test (is-open (place os))
-      (λ o. new-lock os ins m k j (free (is-open (place os)) (is-zero (value-of two sc s e)) (apart m (against i (s .threads))) o (ready-parts _ _ r .1)) u hj)
+      (λ u. by-test (is-open (context os))
+      (λ o. new-lock os ins m k j (free (is-open (context os)) (is-zero (value-of two-point sc s e)) (apart m (against i (s .threads))) o (ready-parts _ _ r .1)) u hj)
       (λ o. mine os ins k j (or-right (test k (owned os)) (test k (reserved os)) (within-locks os m e b c (bo o) k u)) hj))
       (λ u. mine os ins k j (or-left _ _ u) hj)
       (rw (test-or k m (owned os)) at a))

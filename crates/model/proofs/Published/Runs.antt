@@ -7,48 +7,51 @@ use mathlib.Core.Option.{Option, none, some}
 use native.Mathlib.Omega.{arith}
 use lib.Dec.{T, eqb, ltb}
 use lib.ListN.{getD, length}
-use Rattle.model.specs.Machine.{Thread, State, Meaning, status, is-ready, ready-from, ready-set, all-finished, take-turn, advance}
+use Rattle.model.specs.Threads.{Thread}
+use Rattle.model.specs.Machine.{State, status, is-ready, each-from, ready-set, all-finished, take-turn, advance, rules, most-turns}
+use Rattle.model.specs.Schedulers.{Meaning, Obedient}
 use Rattle.script.specs.Code.{Script}
-use Rattle.model.specs.Calls.{Call, Answer, begin, perform}
+use Rattle.model.specs.Calls.{Call, Answer, begin, perform, after}
 use Rattle.model.specs.Calls.Call.{feed, advance-by, count, entry, ask}
-use Rattle.model.specs.Follows.{two, Reached}
+use Rattle.lattice.specs.Orders.{two-point}
+use Rattle.model.specs.Follows.{Reached}
 use Rattle.model.specs.Follows.Reached.{start, turn, rest, fed}
-use Rattle.model.specs.Runs.{Obeys, after, Calls-reach}
+use Rattle.model.specs.Runs.{Calls-reach}
 
-ready-at : (f : ℕ → Bool) (k : ℕ) (ts : List Thread) (i : ℕ) → T (getD (ready-from f k ts) i false) → T (f (k + i))
+ready-at : (f : ℕ → Bool) (k : ℕ) (ts : List Thread) (i : ℕ) → T (getD (each-from f k ts) i false) → T (f (k + i))
 ready-at f k [] i h = absurd h
 ready-at f k (t ∷ ts) zero h = let e : k + 0 ≡ k = omega arith in subst (λ (n : ℕ). T (f n)) (sym e) h
 ready-at f k (t ∷ ts) (suc i) h = let e : suc k + i ≡ k + suc i = omega arith in subst (λ (n : ℕ). T (f n)) e (ready-at f (suc k) ts i h)
 
-module _ (sc : Script) {G : Type 0} (give : Meaning G) (law : Obeys give) where
-  turned : (s : State) (g : G) → Reached sc s → Reached sc (take-turn two sc s (give g (ready-set two sc s) .0))
-  turned s g r = go (give g (ready-set two sc s) .0) refl
+module _ (sc : Script) {G : Type 0} (schedule : Meaning G) (law : Obedient schedule) where
+  turned : (s : State) (g : G) → Reached sc s → Reached sc (take-turn (rules two-point sc) s (schedule g (ready-set (rules two-point sc) s) .0))
+  turned s g r = go (schedule g (ready-set (rules two-point sc) s) .0) refl
     where
-      go : (o : Option ℕ) → give g (ready-set two sc s) .0 ≡ o → Reached sc (take-turn two sc s o)
+      go : (o : Option ℕ) → schedule g (ready-set (rules two-point sc) s) .0 ≡ o → Reached sc (take-turn (rules two-point sc) s o)
       go none e = rest r
       go (some i) e =
-          let now = ready-at (λ n. is-ready (status two sc s n)) 0 (s .threads) i (law g (ready-set two sc s) i e) in
+          let now = ready-at (λ n. is-ready (status two-point sc s n)) 0 (s .threads) i (law .picks-ready g (ready-set (rules two-point sc) s) i e) in
           let z : 0 + i ≡ i = omega arith in
-          turn i r (subst (λ (n : ℕ). T (is-ready (status two sc s n))) z now)
+          turn i r (subst (λ (n : ℕ). T (is-ready (status two-point sc s n))) z now)
 
   either : {A : Type 0} (P : A → Type 0) (b : Bool) (x y : A) → P x → P y → P (cond b x y)
   either P true x y p q = p
   either P false x y p q = q
 
-  advanced : (n : ℕ) (s : State) (g : G) → Reached sc s → Reached sc (advance two sc give n s g .1)
+  advanced : (n : ℕ) (s : State) (g : G) → Reached sc s → Reached sc (advance (rules two-point sc) schedule n s g .1)
   advanced zero s g r = r
   advanced (suc n) s g r =
-      either (λ (v : ℕ × State × G). Reached sc (v .1)) (all-finished two sc s || eqb (s .turns) 1000000) _ _ r
-      (advanced n (take-turn two sc s (give g (ready-set two sc s) .0)) (give g (ready-set two sc s) .1) (turned s g r))
+      either (λ (v : ℕ × State × G). Reached sc (v .1)) (all-finished (rules two-point sc) s || eqb (s .turns) most-turns) _ _ r
+      (advanced n (take-turn (rules two-point sc) s (schedule g (ready-set (rules two-point sc) s) .0)) (schedule g (ready-set (rules two-point sc) s) .1) (turned s g r))
 
-  performed : (c : Call) (s : State) (g : G) → Reached sc s → Reached sc (perform two sc give c s g .1)
+  performed : (c : Call) (s : State) (g : G) → Reached sc s → Reached sc (perform two-point sc schedule c s g .1)
   unfolding perform
   performed (feed false t z) s g r = r
   performed (feed true t z) s g r =
       either (λ (v : Answer × State × G). Reached sc (v .1)) (ltb t (length (sc .track-levels))) _ _
       (either (λ (v : Answer × State × G). Reached sc (v .1)) (ltb (length (getD (s .tracks) t [])) (getD (sc .track-sizes) t 0)) _ _ (fed t z r) r) r
   performed (advance-by false n) s g r = r
-  performed (advance-by true n) s g r = either (λ (v : Answer × State × G). Reached sc (v .1)) (eqb (s .turns) 1000000) _ _ r (advanced n s g r)
+  performed (advance-by true n) s g r = either (λ (v : Answer × State × G). Reached sc (v .1)) (eqb (s .turns) most-turns) _ _ r (advanced n s g r)
   performed (count false h) s g r = r
   performed (count true h) s g r = r
   performed (entry false h i) s g r = r
@@ -56,9 +59,9 @@ module _ (sc : Script) {G : Type 0} (give : Meaning G) (law : Obeys give) where
   performed (ask false i) s g r = r
   performed (ask true i) s g r = r
 
-  called : (cs : List Call) (s : State) (g : G) → Reached sc s → Reached sc (after sc give cs s g .0)
+  called : (cs : List Call) (s : State) (g : G) → Reached sc s → Reached sc (after two-point sc schedule cs s g .0)
   called [] s g r = r
-  called (c ∷ cs) s g r = called cs (perform two sc give c s g .1) (perform two sc give c s g .2) (performed c s g r)
+  called (c ∷ cs) s g r = called cs (perform two-point sc schedule c s g .1) (perform two-point sc schedule c s g .2) (performed c s g r)
 
-pub calls-reach : {G : Type 0} (give : Meaning G) → Calls-reach give
-calls-reach give law sc cs g = called sc give law cs (begin sc) g start
+pub calls-reach : {G : Type 0} (schedule : Meaning G) → Obedient schedule → Calls-reach schedule
+calls-reach schedule law sc cs g = called sc schedule law cs (begin sc) g start

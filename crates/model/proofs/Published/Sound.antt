@@ -8,18 +8,20 @@ use native.Mathlib.Omega.{arith}
 use lib.Dec.{T, eqb, eqb·suc-suc, eqb·suc-zero, eqb·zero-suc}
 use lib.ListN.{getD, set, length}
 use lib.Bits.{bitOr}
-use Rattle.model.specs.Level.{is-open}
+use Rattle.model.specs.Levels.{is-open}
 use Rattle.codec.specs.Expressions.{Expr}
 use Rattle.script.specs.Code.{Code}
-use Rattle.model.specs.Code.{assigns, needs, even}
+use Rattle.model.specs.Stretches.{is-literal-one, assigns, needs, fixed-time}
 use Rattle.script.specs.Code.Code.{done, assign, branch, loop, lock}
-use Rattle.model.specs.Machine.{Cell, blank, Open, Thread, ended, place, reserved, guard-of, guard}
-use Rattle.model.specs.Machine.Open.{in-branch, in-loop, in-lock}
+use Rattle.model.specs.Values.{Cell, blank}
+use Rattle.model.specs.Threads.{Open, Thread, ended, context, reserved, guard-of, guard}
+use Rattle.model.specs.Threads.Open.{in-branch, in-loop, in-lock}
 use Rattle.model.specs.Automaton.{all-bottom}
-use Rattle.model.specs.Follows.{two, outermost, counted, assigning, word}
+use Rattle.lattice.specs.Orders.{two-point}
+use Rattle.model.specs.Follows.{outermost, counted, assigning, word}
 use Rattle.model.proofs.Unaltered.Tests.{is-true, and-left, and-right, and-false}
 use Rattle.model.proofs.Published.Masks.{test, test-or, test-zero}
-use Rattle.model.proofs.Published.Opens.{open-max, nought-sum}
+use Rattle.model.proofs.Published.Opens.{open-join, nought-sum}
 use Rattle.model.proofs.Published.Locks.{holds, or-left, or-right}
 
 -- A stretch inside a closed branch: what it assigns and needs is the outermost closed branch's, and it is even.
@@ -27,14 +29,14 @@ abbrev pub Within : Code → List Open → Type 0
 Within c os =
     ((x : ℕ) → T (assigns x c) → eqb (counted x os) 0 ≡ false) ×
     ((n : ℕ) → T (test n (needs c)) → T (test n (reserved os))) ×
-    T (even c)
+    T (fixed-time c)
 
 abbrev pub Bound : Code → List Open → Type 0
-Bound c os = is-open (place os) ≡ false → Within c os
+Bound c os = is-open (context os) ≡ false → Within c os
 
 abbrev pub Sound : List Open → Type 0
 Sound [] = Unit {0}
-Sound (in-branch l w p q n ∷ os) = (T (is-open l) → T (is-open (place os))) × (is-open l ≡ false → T (even p && even q)) × Bound (branch [] p q n) os × Sound os
+Sound (in-branch l w p q n ∷ os) = (T (is-open l) → T (is-open (context os))) × (is-open l ≡ false → T (fixed-time p && fixed-time q)) × Bound (branch [] p q n) os × Sound os
 Sound (in-loop e b n ∷ os) = Bound (loop e b n) os × Sound os
 Sound (in-lock m n ∷ os) = Bound n os × Sound os
 
@@ -65,22 +67,22 @@ as-false false f = refl
 
 -- Blocks
 
-pub word-place : (os : List Open) → Sound os → all-bottom (word os) ≡ is-open (place os)
-word-place [] h = refl
-word-place (in-branch l w p q n ∷ os) h = ap (λ (b : Bool). not (outermost l os) && b) (word-place os (h .3)) ∙ go (is-open (place os)) (is-open l) (h .0)
+pub word-context : (os : List Open) → Sound os → all-bottom (word os) ≡ is-open (context os)
+word-context [] h = refl
+word-context (in-branch l w p q n ∷ os) h = ap (λ (b : Bool). not (outermost l os) && b) (word-context os (h .3)) ∙ go (is-open (context os)) (is-open l) (h .0)
   where
     go : (po lo : Bool) → (T lo → T po) → not (po && not lo) && po ≡ lo
     go true true f = refl
     go true false f = refl
     go false true f = absurd (f tt)
     go false false f = refl
-word-place (in-loop e b n ∷ os) h = word-place os (h .1)
-word-place (in-lock m n ∷ os) h = word-place os (h .1)
+word-context (in-loop e b n ∷ os) h = word-context os (h .1)
+word-context (in-lock m n ∷ os) h = word-context os (h .1)
 
 -- In an open place nothing is reserved.
-pub none-reserved : (os : List Open) → Sound os → T (is-open (place os)) → reserved os ≡ 0
+pub none-reserved : (os : List Open) → Sound os → T (is-open (context os)) → reserved os ≡ 0
 none-reserved [] h o = refl
-none-reserved (in-branch l w p q n ∷ os) h o = rw (is-true (is-open l) o, is-true (is-open (place os)) (h .0 o)) (none-reserved os (h .3) (h .0 o))
+none-reserved (in-branch l w p q n ∷ os) h o = rw (is-true (is-open l) o, is-true (is-open (context os)) (h .0 o)) (none-reserved os (h .3) (h .0 o))
 none-reserved (in-loop e b n ∷ os) h o = none-reserved os (h .1) o
 none-reserved (in-lock m n ∷ os) h o = none-reserved os (h .1) o
 
@@ -90,19 +92,19 @@ and-true true = refl
 and-true false = refl
 
 guard-step : (inner l acc c : ℕ) (a po lo : Bool) → is-open l ≡ lo → (T lo → T po) → (T a → po ≡ false → eqb c 0 ≡ false) → is-open inner ≡ is-open acc && eqb c 0 →
-    is-open (cond a (max inner l) inner) ≡ is-open acc && eqb (cond ((po && not lo) && a) (suc c) c) 0
+    is-open (cond a (two-point .join inner l) inner) ≡ is-open acc && eqb (cond ((po && not lo) && a) (suc c) c) 0
 guard-step inner l acc c false true true e f g k = k
 guard-step inner l acc c false true false e f g k = k
 guard-step inner l acc c false false lo e f g k = k
-guard-step inner l acc c true true true e f g k = open-max inner l ∙ rw (e, and-true) k
-guard-step inner l acc c true true false e f g k = open-max inner l ∙ rw (e, eqb·suc-zero c) (simp and-false)
+guard-step inner l acc c true true true e f g k = open-join inner l ∙ rw (e, and-true) k
+guard-step inner l acc c true true false e f g k = open-join inner l ∙ rw (e, eqb·suc-zero c) (simp and-false)
 guard-step inner l acc c true false true e f g k = absurd (f tt)
-guard-step inner l acc c true false false e f g k = open-max inner l ∙ rw (e, g tt refl) (simp and-false)
+guard-step inner l acc c true false false e f g k = open-join inner l ∙ rw (e, g tt refl) (simp and-false)
 
-pub guard-of-counted : (x : ℕ) (os : List Open) (acc : ℕ) → Sound os → is-open (guard-of two x os acc) ≡ is-open acc && eqb (counted x os) 0
+pub guard-of-counted : (x : ℕ) (os : List Open) (acc : ℕ) → Sound os → is-open (guard-of two-point x os acc) ≡ is-open acc && eqb (counted x os) 0
 guard-of-counted x [] acc h = sym (and-true (is-open acc))
 guard-of-counted x (in-branch l w p q n ∷ os) acc h =
-    guard-step (guard-of two x os acc) l acc (counted x os) (assigns x p || assigns x q) (is-open (place os)) (is-open l) refl (h .0)
+    guard-step (guard-of two-point x os acc) l acc (counted x os) (assigns x p || assigns x q) (is-open (context os)) (is-open l) refl (h .0)
     (λ a o. h .2 o .0 x (or-left (assigns x p || assigns x q) (assigns x n) a)) (guard-of-counted x os acc (h .3))
 guard-of-counted x (in-loop e b n ∷ os) acc h = guard-of-counted x os acc (h .1)
 guard-of-counted x (in-lock m n ∷ os) acc h = guard-of-counted x os acc (h .1)
@@ -111,10 +113,10 @@ and-assoc : (a b c : Bool) → (a && b) && c ≡ a && (b && c)
 and-assoc true b c = refl
 and-assoc false b c = refl
 
-pub guard-assigning : (x : ℕ) (ts : List Thread) (acc : ℕ) → ((j : ℕ) → Good (getD ts j ended)) → is-open (guard two x ts acc) ≡ is-open acc && eqb (assigning x ts) 0
+pub guard-assigning : (x : ℕ) (ts : List Thread) (acc : ℕ) → ((j : ℕ) → Good (getD ts j ended)) → is-open (guard two-point x ts acc) ≡ is-open acc && eqb (assigning x ts) 0
 guard-assigning x [] acc h = sym (and-true (is-open acc))
 guard-assigning x (t ∷ ts) acc h =
-    guard-assigning x ts (guard-of two x (t .inside) acc) (λ j. h (suc j))
+    guard-assigning x ts (guard-of two-point x (t .inside) acc) (λ j. h (suc j))
     ∙ ap (λ (b : Bool). b && eqb (assigning x ts) 0) (guard-of-counted x (t .inside) acc (h 0 .0))
     ∙ and-assoc (is-open acc) (eqb (counted x (t .inside)) 0) (eqb (assigning x ts) 0)
     ∙ ap (λ (b : Bool). is-open acc && b) (sym (nought-sum (counted x (t .inside)) (assigning x ts)))
@@ -165,7 +167,7 @@ module _ {A : Type 0} where
   set-either (b ∷ l) (suc x) a (suc y) d = elim (set-either l x a y d) [ inl e ↦ inl e | inr r ↦ inr (ap suc (r .0), r .1) ]
 
 -- Parts of a stretch
-pub within-part : (c d : Code) (os : List Open) → ((x : ℕ) → T (assigns x d) → T (assigns x c)) → ((n : ℕ) → T (test n (needs d)) → T (test n (needs c))) → (T (even c) → T (even d)) → Within c os → Within d os
+pub within-part : (c d : Code) (os : List Open) → ((x : ℕ) → T (assigns x d) → T (assigns x c)) → ((n : ℕ) → T (test n (needs d)) → T (test n (needs c))) → (T (fixed-time c) → T (fixed-time d)) → Within c os → Within d os
 within-part c d os f g k h = ((λ x a. h .0 x (f x a)), (λ n a. h .1 n (g n a)), k (h .2))
 
 pub or-in-left : (n a b : ℕ) → T (test n a) → T (test n (bitOr a b))
@@ -185,23 +187,23 @@ module _ (os : List Open) where
   within-next e p q c = within-part (branch e p q c) c os
       (λ x a. or-right (assigns x p || assigns x q) (assigns x c) a)
       (λ n a. or-in-right n (bitOr (needs p) (needs q)) (needs c) a)
-      (λ a. and-right (even p && even q) (even c) a)
+      (λ a. and-right (fixed-time p && fixed-time q) (fixed-time c) a)
 
   pub within-body : (m : ℕ) (e : Expr) (b c : Code) → Within (lock m e b c) os → Within b os
   within-body m e b c = within-part (lock m e b c) b os
       (λ x a. or-left (assigns x b) (assigns x c) a)
       (λ n a. or-in-left n (bitOr m (needs b)) (needs c) (or-in-right n m (needs b) a))
-      (λ a. and-right (Rattle.model.specs.Code.is-literal-one e) (even b) (and-left (Rattle.model.specs.Code.is-literal-one e && even b) (even c) a))
+      (λ a. and-right (is-literal-one e) (fixed-time b) (and-left (is-literal-one e && fixed-time b) (fixed-time c) a))
 
   pub within-after : (m : ℕ) (e : Expr) (b c : Code) → Within (lock m e b c) os → Within c os
   within-after m e b c = within-part (lock m e b c) c os
       (λ x a. or-right (assigns x b) (assigns x c) a)
       (λ n a. or-in-right n (bitOr m (needs b)) (needs c) a)
-      (λ a. and-right (Rattle.model.specs.Code.is-literal-one e && even b) (even c) a)
+      (λ a. and-right (is-literal-one e && fixed-time b) (fixed-time c) a)
 
   -- The locks of a with in a closed place are reserved, and its expression is literal one.
   pub within-locks : (m : ℕ) (e : Expr) (b c : Code) → Within (lock m e b c) os → (n : ℕ) → T (test n m) → T (test n (reserved os))
   within-locks m e b c h n a = h .1 n (or-in-left n (bitOr m (needs b)) (needs c) (or-in-left n m (needs b) a))
 
-  pub within-literal : (m : ℕ) (e : Expr) (b c : Code) → Within (lock m e b c) os → T (Rattle.model.specs.Code.is-literal-one e)
-  within-literal m e b c h = and-left (Rattle.model.specs.Code.is-literal-one e) (even b) (and-left (Rattle.model.specs.Code.is-literal-one e && even b) (even c) (h .2))
+  pub within-literal : (m : ℕ) (e : Expr) (b c : Code) → Within (lock m e b c) os → T (is-literal-one e)
+  within-literal m e b c h = and-left (is-literal-one e) (fixed-time b) (and-left (is-literal-one e && fixed-time b) (fixed-time c) (h .2))

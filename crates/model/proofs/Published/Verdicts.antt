@@ -7,22 +7,27 @@ use mathlib.Core.Logic.{inl, inr}
 use mathlib.Core.Option.{Option, none, some}
 use lib.Dec.{T, eqb, eqb-refl}
 use lib.ListN.{getD, set}
-use Rattle.model.specs.Level.{is-open}
+use Rattle.model.specs.Levels.{is-open}
 use Rattle.codec.specs.Expressions.{Expr}
 use Rattle.script.specs.Code.{Code, Script}
-use Rattle.model.specs.Code.{even}
+use Rattle.model.specs.Stretches.{fixed-time}
 use Rattle.script.specs.Code.Code.{done, skip, assign, put, branch, loop, lock}
-use Rattle.model.specs.Machine.{Open, Pace, Thread, ended, State, Status, is-zero, value-of, level-of, choose-status, status-at, status, is-ready, is-finished, lag, at-code, close-branch, step-at}
-use Rattle.model.specs.Machine.Open.{in-branch, in-loop, in-lock}
-use Rattle.model.specs.Machine.Pace.{running, idling}
+use Rattle.model.specs.Threads.{Open, Pace, Thread, ended, at-code}
+use Rattle.model.specs.Machine.{State, Status, value-of, level-of, choose-status, status-at, status, is-ready, is-finished, is-barred, rules, take-turn, lag, close-branch, step-at}
+use Rattle.model.specs.Values.{is-zero}
+use Rattle.model.specs.Threads.Open.{in-branch, in-loop, in-lock}
+use Rattle.model.specs.Threads.Pace.{running, idling}
 use Rattle.model.specs.Machine.Status.{ready, finished, waiting, barred}
 use Rattle.model.specs.Automaton.{Q, Pool, Input, Output, apart, all-bottom, and-then, carries, react, extract, update}
 use Rattle.model.specs.Automaton.Input.{at-branch, at-merge, at-sync, at-skip, at-assign, at-output}
 use Rattle.model.specs.Automaton.Output.{ok, no, default}
-use Rattle.model.specs.Follows.{two, all-open, pool, first, Same, others, Reached, asked, Does, Untold, Ends, Begins, Tests, Loops, Agrees}
-use Rattle.model.specs.Together.{reads, declared, all-declared, ending, testing, told, permits, go-on, hears, is-some, departs, never-syncs, is-barred, Enters, Verdict, Together, Gives-its-verdicts}
+use Rattle.lattice.specs.Orders.{two-point}
+use Rattle.model.specs.Follows.{on-open, pool, first, Same, others, Reached, asked, Does, Untold, Ends, PutsTo, Begins, Tests, Loops, Agrees}
+use Rattle.model.specs.Together.{ending, putting, testing, told, permits, go-on, hears, is-some, departs, never-syncs, EntersTo, Enters, Verdict, Together, Gives-its-verdicts}
 use Rattle.model.specs.Together.Together.{start, turn, rest, fed}
 use Rattle.model.proofs.Unaltered.Tests.{by-test, is-true, and-left, and-right, set-all}
+use Rattle.script.specs.Trees.{head-of}
+use Rattle.model.proofs.Published.Names.{reads, declared, all-declared, all-valid-declared}
 use Rattle.model.proofs.Published.Opens.{not-not, level-carries}
 use Rattle.model.proofs.Published.Sound.{Kept, clear, as-false}
 use Rattle.model.proofs.Published.Reach.{put-threads, reached-kept, step-kept}
@@ -60,6 +65,10 @@ module _ (sc : Script) (s : State) (i : ℕ) where
   testing-fits n true m e b h = fit-one (reads n e) h
   testing-fits n false m e b h = fit-one (reads n e) h
 
+  putting-fits : (b : Bool) (n : ℕ) (e : Expr) → T (reads n e) → T (all-fit n (putting b e))
+  putting-fits true n e h = fit-one (reads n e) h
+  putting-fits false n e h = tt
+
   told-fits : (n : ℕ) (c : Code) (pace : Pace) (os : List Open) → T (declared n c) → T (all-fit n (told sc s i c pace os))
   told-fits n c (idling k) [] h = tt
   told-fits n c (idling k) (in-branch l w p q next ∷ os) h = ending-fits n k (cond w p q) (cond w q p)
@@ -71,9 +80,9 @@ module _ (sc : Script) (s : State) (i : ℕ) where
   told-fits n done running (in-lock m next ∷ os) h = tt
   told-fits n (skip c) running os h = tt
   told-fits n (assign x e c) running os h = fit-one (reads n e) (and-left (reads n e) (declared n c) h)
-  told-fits n (put x e c) running os h = fit-one (reads n e) (and-left (reads n e) (declared n c) h)
+  told-fits n (put x e c) running os h = putting-fits (on-open sc x) n e (and-left (reads n e) (declared n c) h)
   told-fits n (branch e p q c) running os h = fit-one (reads n e) (and-left (reads n e) (declared n p) (and-left (reads n e && declared n p) (declared n q && declared n c) h))
-  told-fits n (loop e b c) running os h = testing-fits n (is-zero (value-of two sc s e)) (others i (s .threads)) e b (and-left (reads n e) (declared n b && declared n c) h)
+  told-fits n (loop e b c) running os h = testing-fits n (is-zero (value-of two-point sc s e)) (others i (s .threads)) e b (and-left (reads n e) (declared n b && declared n c) h)
   told-fits n (lock m e b c) running os h = fit-one (reads n e) (and-left (reads n e) (declared n b && declared n c) h)
 
   module _ (n : ℕ) (R : (j : ℕ) → Names n (getD (s .threads) j ended)) where
@@ -84,7 +93,7 @@ module _ (sc : Script) (s : State) (i : ℕ) where
     close-in l w p q next os h zero = pair (declared n next) (named n os) h
     close-in l w p q next os h (suc left) = (tt, h)
 
-    step-names : (c : Code) (pace : Pace) (os : List Open) → T (declared n c) → T (named n os) → (j : ℕ) → Names n (getD (step-at two sc s i c pace os .threads) j ended)
+    step-names : (c : Code) (pace : Pace) (os : List Open) → T (declared n c) → T (named n os) → (j : ℕ) → Names n (getD (step-at two-point sc s i c pace os .threads) j ended)
     unfolding step-at
     step-names c (idling k) [] h g = R
     step-names c (idling k) (in-branch l w p q next ∷ os) h g = put-in (close-branch k (in-branch l w p q next) os next) (close-in l w p q next os g k)
@@ -100,12 +109,12 @@ module _ (sc : Script) (s : State) (i : ℕ) where
     step-names (branch e p q c) running os h g =
         let ep = and-left (reads n e && declared n p) (declared n q && declared n c) h in
         let qc = and-right (reads n e && declared n p) (declared n q && declared n c) h in
-        put-in _ (way (not (is-zero (value-of two sc s e))) (and-right (reads n e) (declared n p) ep) (and-left (declared n q) (declared n c) qc), join (declared n c) (named n os) (and-right (declared n q) (declared n c) qc) g)
+        put-in _ (way (not (is-zero (value-of two-point sc s e))) (and-right (reads n e) (declared n p) ep) (and-left (declared n q) (declared n c) qc), join (declared n c) (named n os) (and-right (declared n q) (declared n c) qc) g)
       where
         way : (w : Bool) → T (declared n p) → T (declared n q) → T (declared n (cond w p q))
         way true a b = a
         way false a b = b
-    step-names (loop e b c) running os h g = put-in _ (go (is-zero (value-of two sc s e)))
+    step-names (loop e b c) running os h g = put-in _ (go (is-zero (value-of two-point sc s e)))
       where
         go : (z : Bool) → Names n (cond z (at-code c os) (at-code b (in-loop e b c ∷ os)))
         go true = (and-right (declared n b) (declared n c) (and-right (reads n e) (declared n b && declared n c) h), g)
@@ -177,8 +186,12 @@ module _ (sc : Script) (s : State) (i : ℕ) where
       merge : Input
       merge = at-merge done (and-then b (loop e b done))
 
+  put-heard : (b : Bool) (h : ℕ) (e : Expr) (after : Thread) (then : State) → PutsTo sc s i b h e after then → Heard (putting b e) then
+  put-heard true h e after then a = one (at-output e) (a .says) then (a .does)
+  put-heard false h e after then a = nothing then a
+
   -- A turn that the machine gives is one that the automaton is told of and does not hold back.
-  tells : (c : Code) (pace : Pace) (os : List Open) → Agrees sc s i c pace os → T (is-ready (status-at two sc s i c pace os)) → Heard (told sc s i c pace os) (step-at two sc s i c pace os)
+  tells : (c : Code) (pace : Pace) (os : List Open) → Agrees sc s i c pace os → T (is-ready (status-at two-point sc s i c pace os)) → Heard (told sc s i c pace os) (step-at two-point sc s i c pace os)
   tells c (idling n) [] a r = nothing _ a
   tells c (idling n) (in-branch l w p q next ∷ os) a r = ended-heard n (cond w p q) (cond w q p) _ a
   tells c (idling n) (in-loop e b next ∷ os) a r = nothing _ a
@@ -189,25 +202,25 @@ module _ (sc : Script) (s : State) (i : ℕ) where
   tells done running (in-lock m next ∷ os) a r = nothing _ a
   tells (skip c) running os a r = one at-skip ok _ a
   tells (assign x e c) running os a r = one (at-assign x e) ok _ a
-  tells (put h e c) running os a r = one (at-output e) (a .says) _ (a .does)
+  tells (put h e c) running os a r = put-heard (on-open sc h) h e (at-code c os) _ a
   tells (branch e p q c) running os a r = go (departs (asked sc s i) (branch e p q c) running) a
     where
-      go : (d : Bool) → Begins sc s i d (at-branch (others i (s .threads)) e (cond (not (is-zero (value-of two sc s e))) p q) (cond (not (is-zero (value-of two sc s e))) q p)) (status-at two sc s i (branch e p q c) running os) (step-at two sc s i (branch e p q c) running os) →
-          Heard (told sc s i (branch e p q c) running os) (step-at two sc s i (branch e p q c) running os)
-      go true b = not-ready (status-at two sc s i (branch e p q c) running os) barred b refl r
+      go : (d : Bool) → Begins sc s i d (at-branch (others i (s .threads)) e (cond (not (is-zero (value-of two-point sc s e))) p q) (cond (not (is-zero (value-of two-point sc s e))) q p)) (status-at two-point sc s i (branch e p q c) running os) (step-at two-point sc s i (branch e p q c) running os) →
+          Heard (told sc s i (branch e p q c) running os) (step-at two-point sc s i (branch e p q c) running os)
+      go true b = not-ready (status-at two-point sc s i (branch e p q c) running os) barred b refl r
       go false (inl b) = one _ ok _ (b .1)
-      go false (inr b) = not-ready (status-at two sc s i (branch e p q c) running os) waiting (b .0) refl r
+      go false (inr b) = not-ready (status-at two-point sc s i (branch e p q c) running os) waiting (b .0) refl r
   tells (loop e b c) running os a r = go (carries (asked sc s i) e) a
     where
-      go : (d : Bool) → Loops sc s i d e b (status-at two sc s i (loop e b c) running os) (step-at two sc s i (loop e b c) running os) →
-          Heard (told sc s i (loop e b c) running os) (step-at two sc s i (loop e b c) running os)
-      go true h = not-ready (status-at two sc s i (loop e b c) running os) barred h refl r
-      go false h = tested-heard (is-zero (value-of two sc s e)) e b _ (h .1)
-  tells (lock m e b c) running os a r = one (at-sync m e) ok _ (a .allows (ready-is (status-at two sc s i (lock m e b c) running os) r) .0)
+      go : (d : Bool) → Loops sc s i d e b (status-at two-point sc s i (loop e b c) running os) (step-at two-point sc s i (loop e b c) running os) →
+          Heard (told sc s i (loop e b c) running os) (step-at two-point sc s i (loop e b c) running os)
+      go true h = not-ready (status-at two-point sc s i (loop e b c) running os) barred h refl r
+      go false h = tested-heard (is-zero (value-of two-point sc s e)) e b _ (h .1)
+  tells (lock m e b c) running os a r = one (at-sync m e) ok _ (a .allows (ready-is (status-at two-point sc s i (lock m e b c) running os) r) .0)
 
   -- And the machine gives every turn that the automaton does not hold back, but for the departures.
-  goes : (c : Code) (pace : Pace) (os : List Open) → Agrees sc s i c pace os → is-finished (status-at two sc s i c pace os) ≡ false →
-      is-ready (status-at two sc s i c pace os) ≡ not (departs (asked sc s i) c pace) && (permits sc s i c pace && is-some (hears (pool sc s) i (told sc s i c pace os)))
+  goes : (c : Code) (pace : Pace) (os : List Open) → Agrees sc s i c pace os → is-finished (status-at two-point sc s i c pace os) ≡ false →
+      is-ready (status-at two-point sc s i c pace os) ≡ not (departs (asked sc s i) c pace) && (permits sc s i c pace && is-some (hears (pool sc s) i (told sc s i c pace os)))
   goes c (idling n) [] a f = refl
   goes c (idling n) (in-branch l w p q next ∷ os) a f = sym (ap is-some (ended-heard n (cond w p q) (cond w q p) _ a .answer))
   goes c (idling n) (in-loop e b next ∷ os) a f = refl
@@ -218,36 +231,36 @@ module _ (sc : Script) (s : State) (i : ℕ) where
   goes done running (in-lock m next ∷ os) a f = refl
   goes (skip c) running os a f = refl
   goes (assign x e c) running os a f = sym (ap is-some (one (at-assign x e) ok _ a .answer))
-  goes (put h e c) running os a f = sym (ap is-some (one (at-output e) (a .says) _ (a .does) .answer))
+  goes (put h e c) running os a f = sym (ap is-some (put-heard (on-open sc h) h e (at-code c os) _ a .answer))
   goes (branch e p q c) running os a f = go (departs (asked sc s i) (branch e p q c) running) a
     where
       now : Status
-      now = status-at two sc s i (branch e p q c) running os
+      now = status-at two-point sc s i (branch e p q c) running os
 
       input : Input
-      input = at-branch (others i (s .threads)) e (cond (not (is-zero (value-of two sc s e))) p q) (cond (not (is-zero (value-of two sc s e))) q p)
+      input = at-branch (others i (s .threads)) e (cond (not (is-zero (value-of two-point sc s e))) p q) (cond (not (is-zero (value-of two-point sc s e))) q p)
 
-      go : (d : Bool) → Begins sc s i d input now (step-at two sc s i (branch e p q c) running os) → is-ready now ≡ not d && (true && is-some (hears (pool sc s) i (input ∷ [])))
+      go : (d : Bool) → Begins sc s i d input now (step-at two-point sc s i (branch e p q c) running os) → is-ready now ≡ not d && (true && is-some (hears (pool sc s) i (input ∷ [])))
       go true b = ap is-ready b
       go false (inl b) = ap is-ready (b .0) ∙ sym (ap is-some (one input ok _ (b .1) .answer))
       go false (inr b) = ap is-ready (b .0) ∙ sym (ap (λ (r : Option (Output × Q)). is-some (go-on (pool sc s) i r (λ u. some ([], u)))) (b .1))
   goes (loop e b c) running os a f = go (carries (asked sc s i) e) a
     where
       now : Status
-      now = status-at two sc s i (loop e b c) running os
+      now = status-at two-point sc s i (loop e b c) running os
 
-      go : (d : Bool) → Loops sc s i d e b now (step-at two sc s i (loop e b c) running os) → is-ready now ≡ not d && (true && is-some (hears (pool sc s) i (testing (is-zero (value-of two sc s e)) (others i (s .threads)) e b)))
+      go : (d : Bool) → Loops sc s i d e b now (step-at two-point sc s i (loop e b c) running os) → is-ready now ≡ not d && (true && is-some (hears (pool sc s) i (testing (is-zero (value-of two-point sc s e)) (others i (s .threads)) e b)))
       go true h = ap is-ready h
-      go false h = ap is-ready (h .0) ∙ sym (ap is-some (tested-heard (is-zero (value-of two sc s e)) e b _ (h .1) .answer))
+      go false h = ap is-ready (h .0) ∙ sym (ap is-some (tested-heard (is-zero (value-of two-point sc s e)) e b _ (h .1) .answer))
   goes (lock m e b c) running os a f = by-test (is-ready now)
-      (λ r. let w = a .allows (ready-is now r) in is-true (is-ready now) r ∙ sym (rights (is-zero (value-of two sc s e)) (apart m (others i (s .threads))) (is-some (hears (pool sc s) i (at-sync m e ∷ []))) (w .1) (w .2) (ap is-some (one (at-sync m e) ok _ (w .0) .answer))))
-      (λ r. r ∙ sym (as-false ((not (is-zero (value-of two sc s e)) && apart m (others i (s .threads))) && is-some (hears (pool sc s) i (at-sync m e ∷ []))) (λ h.
-      let zx = and-left (not (is-zero (value-of two sc s e)) && apart m (others i (s .threads))) (is-some (hears (pool sc s) i (at-sync m e ∷ []))) h in
-      let heard = and-right (not (is-zero (value-of two sc s e)) && apart m (others i (s .threads))) (is-some (hears (pool sc s) i (at-sync m e ∷ []))) h in
-      clear true tt (sym (ap is-ready (a .allowed (asked sc s i) (answers heard) (off (is-zero (value-of two sc s e)) (and-left (not (is-zero (value-of two sc s e))) (apart m (others i (s .threads))) zx)) (and-right (not (is-zero (value-of two sc s e))) (apart m (others i (s .threads))) zx))) ∙ r))))
+      (λ r. let w = a .allows (ready-is now r) in is-true (is-ready now) r ∙ sym (rights (is-zero (value-of two-point sc s e)) (apart m (others i (s .threads))) (is-some (hears (pool sc s) i (at-sync m e ∷ []))) (w .1) (w .2) (ap is-some (one (at-sync m e) ok _ (w .0) .answer))))
+      (λ r. r ∙ sym (as-false ((not (is-zero (value-of two-point sc s e)) && apart m (others i (s .threads))) && is-some (hears (pool sc s) i (at-sync m e ∷ []))) (λ h.
+      let zx = and-left (not (is-zero (value-of two-point sc s e)) && apart m (others i (s .threads))) (is-some (hears (pool sc s) i (at-sync m e ∷ []))) h in
+      let heard = and-right (not (is-zero (value-of two-point sc s e)) && apart m (others i (s .threads))) (is-some (hears (pool sc s) i (at-sync m e ∷ []))) h in
+      clear true tt (sym (ap is-ready (a .allowed (asked sc s i) (answers heard) (off (is-zero (value-of two-point sc s e)) (and-left (not (is-zero (value-of two-point sc s e))) (apart m (others i (s .threads))) zx)) (and-right (not (is-zero (value-of two-point sc s e))) (apart m (others i (s .threads))) zx))) ∙ r))))
     where
       now : Status
-      now = status-at two sc s i (lock m e b c) running os
+      now = status-at two-point sc s i (lock m e b c) running os
 
       off : (z : Bool) → T (not z) → z ≡ false
       off true h = absurd h
@@ -273,7 +286,7 @@ module _ (sc : Script) (s : State) (i : ℕ) where
   or-false false = refl
 
   -- What is barred.
-  bars : (c : Code) (pace : Pace) (os : List Open) → Agrees sc s i c pace os → is-barred (status-at two sc s i c pace os) ≡ departs (asked sc s i) c pace || never-syncs (asked sc s i) c pace
+  bars : (c : Code) (pace : Pace) (os : List Open) → Agrees sc s i c pace os → is-barred (status-at two-point sc s i c pace os) ≡ departs (asked sc s i) c pace || never-syncs (asked sc s i) c pace
   bars c (idling n) os a = refl
   bars done running [] a = refl
   bars done running (o ∷ os) a = refl
@@ -282,13 +295,13 @@ module _ (sc : Script) (s : State) (i : ℕ) where
   bars (put h e c) running os a = refl
   bars (branch e p q c) running os a = go (departs (asked sc s i) (branch e p q c) running) a ∙ or-false (departs (asked sc s i) (branch e p q c) running)
     where
-      go : (d : Bool) → Begins sc s i d (at-branch (others i (s .threads)) e (cond (not (is-zero (value-of two sc s e))) p q) (cond (not (is-zero (value-of two sc s e))) q p)) (status-at two sc s i (branch e p q c) running os) (step-at two sc s i (branch e p q c) running os) →
-          is-barred (status-at two sc s i (branch e p q c) running os) ≡ d
+      go : (d : Bool) → Begins sc s i d (at-branch (others i (s .threads)) e (cond (not (is-zero (value-of two-point sc s e))) p q) (cond (not (is-zero (value-of two-point sc s e))) q p)) (status-at two-point sc s i (branch e p q c) running os) (step-at two-point sc s i (branch e p q c) running os) →
+          is-barred (status-at two-point sc s i (branch e p q c) running os) ≡ d
       go true b = ap is-barred b
       go false (inl b) = ap is-barred (b .0)
       go false (inr b) = ap is-barred (b .0)
-  bars (loop e b c) running os a = bar-of (not (is-open (level-of two sc s e))) false ∙ ap not (level-carries sc s i e) ∙ not-not (carries (asked sc s i) e) ∙ or-false (carries (asked sc s i) e)
-  bars (lock m e b c) running os a = bar-of (not (is-open (level-of two sc s e))) _ ∙ ap not (level-carries sc s i e) ∙ not-not (carries (asked sc s i) e)
+  bars (loop e b c) running os a = bar-of (not (is-open (level-of two-point sc s e))) false ∙ ap not (level-carries sc s i e) ∙ not-not (carries (asked sc s i) e) ∙ or-false (carries (asked sc s i) e)
+  bars (lock m e b c) running os a = bar-of (not (is-open (level-of two-point sc s e))) _ ∙ ap not (level-carries sc s i e) ∙ not-not (carries (asked sc s i) e)
 
 -- The automaton that runs beside it
 
@@ -309,7 +322,7 @@ departs-alike n a b l (skip c) running h = refl
 departs-alike n a b l (assign x e c) running h = refl
 departs-alike n a b l (put x e c) running h = refl
 departs-alike n a b l (branch e p q c) running h =
-    ap₂ (λ (u : Bool) (w : List Bool). not (even p && even q) && (u || not (all-bottom w))) (carries-alike n a b l e (and-left (reads n e) (declared n p) (and-left (reads n e && declared n p) (declared n q && declared n c) h))) (l .w)
+    ap₂ (λ (u : Bool) (w : List Bool). not (fixed-time p && fixed-time q) && (u || not (all-bottom w))) (carries-alike n a b l e (and-left (reads n e) (declared n p) (and-left (reads n e && declared n p) (declared n q && declared n c) h))) (l .w)
 departs-alike n a b l (loop e d c) running h = carries-alike n a b l e (and-left (reads n e) (declared n d && declared n c) h)
 departs-alike n a b l (lock m e d c) running h = refl
 
@@ -331,7 +344,7 @@ output-is q e = go (all-bottom (q .w)) (carries q e)
     go true false = (ok, refl)
     go false m = (no, refl)
 
-module _ (sc : Script) (channels : T (all-open (sc .channel-levels))) where
+module _ (sc : Script) where
   -- What holds of a state of the machine and a state of the automaton that stand together.
   pub record Beside (s : State) (p : Pool) : Type 0 where
     pub kept : Kept (sc .variables) (s .cells) (s .threads)
@@ -343,7 +356,7 @@ module _ (sc : Script) (channels : T (all-open (sc .channel-levels))) where
     me = getD (s .threads) i ended
 
     agree : Agrees sc s i (me .code) (me .pace) (me .inside)
-    agree = agrees-at sc channels s (B .kept) i
+    agree = agrees-at sc s (B .kept) i
 
     alike : Both-heard (sc .variables) (hears (pool sc s) i (told sc s i (me .code) (me .pace) (me .inside))) (hears p i (told sc s i (me .code) (me .pace) (me .inside)))
     alike = hears-alike (sc .variables) i (told sc s i (me .code) (me .pace) (me .inside)) (told-fits sc s i (sc .variables) (me .code) (me .pace) (me .inside) (B .names i .0)) (pool sc s) p (B .same)
@@ -353,12 +366,16 @@ module _ (sc : Script) (channels : T (all-open (sc .channel-levels))) where
     puts done running os d a = tt
     puts (skip c) running os d a = tt
     puts (assign x e c) running os d a = tt
-    puts (put h e c) running os d a =
-        let o = output-is (extract p i) e in
-        let both = react-alike (sc .variables) (extract (pool sc s) i) (extract p i) (extract-alike (sc .variables) (pool sc s) p i (B .same)) (at-output e) (and-left (reads (sc .variables) e) (declared (sc .variables) c) d) in
-        let one-side : Both (sc .variables) (some (a .says, a .does .next)) (react (extract p i) (at-output e)) = subst (λ (r : Option (Output × Q)). Both (sc .variables) r (react (extract p i) (at-output e))) (a .does .answer) both in
-        let said : Both (sc .variables) (some (a .says, a .does .next)) (some (o .0, extract p i)) = subst (λ (r : Option (Output × Q)). Both (sc .variables) (some (a .says, a .does .next)) r) (o .1) one-side in
-        (a .says, ap (λ (r : Option (Output × Q)). go-on p i r (λ u. some ([], u))) (o .1) ∙ ap (λ (x : Output). some (x ∷ [], update p i (extract p i))) (sym (said .0)), a .enters)
+    puts (put h e c) running os d a = go (on-open sc h) a
+      where
+        go : (b : Bool) → PutsTo sc s i b h e (at-code c os) (step-at two-point sc s i (put h e c) running os) → EntersTo sc s p i b h e c os
+        go false a = tt
+        go true a =
+            let o = output-is (extract p i) e in
+            let both = react-alike (sc .variables) (extract (pool sc s) i) (extract p i) (extract-alike (sc .variables) (pool sc s) p i (B .same)) (at-output e) (and-left (reads (sc .variables) e) (declared (sc .variables) c) d) in
+            let one-side : Both (sc .variables) (some (a .says, a .does .next)) (react (extract p i) (at-output e)) = subst (λ (r : Option (Output × Q)). Both (sc .variables) r (react (extract p i) (at-output e))) (a .does .answer) both in
+            let said : Both (sc .variables) (some (a .says, a .does .next)) (some (o .0, extract p i)) = subst (λ (r : Option (Output × Q)). Both (sc .variables) (some (a .says, a .does .next)) r) (o .1) one-side in
+            (a .says, ap (λ (r : Option (Output × Q)). go-on p i r (λ u. some ([], u))) (o .1) ∙ ap (λ (x : Output). some (x ∷ [], update p i (extract p i))) (sym (said .0)), a .enters)
     puts (branch e t u c) running os d a = tt
     puts (loop e b c) running os d a = tt
     puts (lock m e b c) running os d a = tt
@@ -378,7 +395,7 @@ module _ (sc : Script) (channels : T (all-open (sc .channel-levels))) where
     }
 
     -- The next state of each, after a turn.
-    later : T (is-ready (status two sc s i)) → (outs : List Output) (r : Pool) → hears p i (told sc s i (me .code) (me .pace) (me .inside)) ≡ some (outs, r) → Beside (Rattle.model.specs.Machine.take-turn two sc s (some i)) r
+    later : T (is-ready (status two-point sc s i)) → (outs : List Output) (r : Pool) → hears p i (told sc s i (me .code) (me .pace) (me .inside)) ≡ some (outs, r) → Beside (take-turn (rules two-point sc) s (some i)) r
     later now outs r e =
         let h = tells sc s i (me .code) (me .pace) (me .inside) agree now in
         record {
@@ -393,7 +410,7 @@ module _ (sc : Script) (channels : T (all-open (sc .channel-levels))) where
             let both : Both-heard (sc .variables) (some (outs₀, r₀)) (some (outs, r)) = subst (λ (u : Option (List Output × Pool)). Both-heard (sc .variables) (some (outs₀, r₀)) u) e one-side in
             both .1
 
-    comes : T (is-ready (status two sc s i)) → (outs : List Output) × (r : Pool) × (hears p i (told sc s i (me .code) (me .pace) (me .inside)) ≡ some (outs, r))
+    comes : T (is-ready (status two-point sc s i)) → (outs : List Output) × (r : Pool) × (hears p i (told sc s i (me .code) (me .pace) (me .inside)) ≡ some (outs, r))
     comes now =
         let h = tells sc s i (me .code) (me .pace) (me .inside) agree now in
         some-of (sc .variables) (h .outs, h .next) (hears p i (told sc s i (me .code) (me .pace) (me .inside))) (subst (λ (u : Option (List Output × Pool)). Both-heard (sc .variables) u (hears p i (told sc s i (me .code) (me .pace) (me .inside)))) (h .answer) alike)
@@ -415,4 +432,6 @@ module _ (sc : Script) (channels : T (all-open (sc .channel-levels))) where
     reached-together (Reached.fed n z r) = let t = reached-together r in (t .0, fed n z (t .1))
 
 pub gives : Gives-its-verdicts
-gives sc channels names = ((λ s r. reached-together sc channels names r), (λ s p t i. verdict sc channels s p (together-beside sc channels names t) i))
+gives sc valid =
+    let names = all-valid-declared (head-of sc) (sc .codes) valid in
+    ((λ s r. reached-together sc names r), (λ s p t i. verdict sc s p (together-beside sc names t) i))

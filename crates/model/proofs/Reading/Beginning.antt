@@ -6,7 +6,7 @@ use mathlib.Core.List.{List, [], _∷_}
 use lib.ListN.{length, drop, getD, List·getD-map}
 use Rattle.script.specs.Code.{Code, Script}
 use Rattle.script.specs.Code.Code.{done, skip, assign, put, branch, loop, lock}
-use Rattle.model.specs.Machine.{at-code}
+use Rattle.model.specs.Threads.{at-code}
 use Rattle.model.specs.Calls.{begin}
 use Rattle.codec.specs.Frames.{Frame}
 use Rattle.codec.specs.Frames.Frame.{header, track, channel, thread, thread-end, if, else, end-if, while, end-while, with, end-with, last}

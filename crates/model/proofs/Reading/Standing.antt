@@ -11,9 +11,11 @@ use Rattle.lattice.specs.Levels.{Levels}
 use Rattle.codec.specs.Expressions.{Expr}
 use Rattle.script.specs.Code.{Code, Script}
 use Rattle.script.specs.Code.Code.{done, skip, assign, put, branch, loop, lock}
-use Rattle.model.specs.Machine.{Open, Pace, Thread, State, ended, is-zero, value-of, lag, step-at, step, do-put, at-code, at-idle, close-branch, place, set-channel, Channel}
-use Rattle.model.specs.Machine.Open.{in-branch, in-loop, in-lock}
-use Rattle.model.specs.Machine.Pace.{running, idling}
+use Rattle.model.specs.Threads.{context, Open, Pace, Thread, ended, at-code, at-idle}
+use Rattle.model.specs.Machine.{State, value-of, lag, step-at, step, do-put, close-branch, set-channel, Channel}
+use Rattle.model.specs.Values.{is-zero}
+use Rattle.model.specs.Threads.Open.{in-branch, in-loop, in-lock}
+use Rattle.model.specs.Threads.Pace.{running, idling}
 use Rattle.codec.specs.Frames.{Frame}
 use Rattle.codec.specs.Frames.Frame.{thread-end, if, else, end-if, while, end-while, with, end-with, last}
 use Rattle.script.specs.Trees.{flatten}
@@ -82,7 +84,7 @@ module _ (fs r : List Frame) where
 
 pub put-threads : (k : Levels) (sc : Script) (s : State) (i h : ℕ) (e : Expr) (os : List Open) → do-put k sc s i h e os .threads ≡ s .threads
 unfolding do-put
-put-threads k sc s i h e os = go (k .flows (place os) (getD (sc .channel-levels) h 0)) _
+put-threads k sc s i h e os = go (k .flows (context os) (getD (sc .channel-levels) h 0)) _
   where
     go : (b : Bool) (ch : Channel) → cond b (set-channel s h ch) s .threads ≡ s .threads
     go true ch = refl

@@ -8,8 +8,8 @@ use lib.Dec.{T}
 use lib.ListN.{length, drop}
 use Rattle.script.specs.Code.{Code, Script}
 use Rattle.script.specs.Code.Code.{done, skip, assign, put, branch, loop, lock}
-use Rattle.model.specs.Machine.{Open}
-use Rattle.model.specs.Machine.Open.{in-branch, in-loop, in-lock}
+use Rattle.model.specs.Threads.{Open}
+use Rattle.model.specs.Threads.Open.{in-branch, in-loop, in-lock}
 use Rattle.codec.specs.Frames.{Head, Frame}
 use Rattle.codec.specs.Frames.Frame.{header, track, channel, thread, thread-end, if, else, end-if, while, end-while, with, end-with, last}
 use Rattle.script.specs.Trees.{flatten, thread-frames, store-frames, head-of, body-frames, script-frames}

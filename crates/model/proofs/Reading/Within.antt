@@ -13,9 +13,11 @@ use Rattle.lattice.specs.Levels.{Levels}
 use Rattle.codec.specs.Expressions.{Expr}
 use Rattle.script.specs.Code.{Code, Script}
 use Rattle.script.specs.Code.Code.{done, skip, assign, put, branch, loop, lock}
-use Rattle.model.specs.Machine.{Open, Pace, Thread, State, ended, is-zero, value-of, lag, step-at, step, do-put, at-code, close-branch}
-use Rattle.model.specs.Machine.Open.{in-branch, in-loop, in-lock}
-use Rattle.model.specs.Machine.Pace.{running, idling}
+use Rattle.model.specs.Threads.{Open, Pace, Thread, ended, at-code}
+use Rattle.model.specs.Machine.{State, value-of, lag, step-at, step, do-put, close-branch}
+use Rattle.model.specs.Values.{is-zero}
+use Rattle.model.specs.Threads.Open.{in-branch, in-loop, in-lock}
+use Rattle.model.specs.Threads.Pace.{running, idling}
 use Rattle.model.specs.Calls.{begin}
 use Rattle.codec.specs.Frames.{Head}
 use Rattle.script.specs.Trees.{Valid, ValidScript, head-of}

@@ -7,10 +7,12 @@ use lib.ListN.{getD, replicate}
 use lib.IntN.{ℤ}
 use Rattle.lattice.specs.Levels.{Levels, Lawful}
 use Rattle.script.specs.Code.{Code, Script}
-use Rattle.model.specs.Machine.{Cell, blank, Thread, unused, at-code}
+use Rattle.model.specs.Values.{Cell, blank}
+use Rattle.model.specs.Threads.{Thread, at-code}
+use Rattle.model.specs.Machine.{unused}
 use Rattle.model.specs.Calls.{begin}
-use Rattle.model.specs.Secrecy.{Levelled}
-use Rattle.model.specs.Typing.{types, all-type, opened, Passes}
+use Rattle.model.specs.Levels.{Levelled, opened}
+use Rattle.model.specs.Inspection.{types, all-type, Passes}
 use Rattle.model.proofs.Unaltered.Tests.{and-left, and-right}
 use Rattle.model.proofs.Unaltered.Under.{under-open, had-at}
 use Rattle.model.proofs.Unaltered.Erased.{erase, erase-cell, erase-thread}

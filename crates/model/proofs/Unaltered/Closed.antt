@@ -6,21 +6,21 @@ use mathlib.Core.List.{List, [], _∷_, map}
 use lib.Dec.{T, eqb, eqb→eq}
 use lib.ListN.{getD}
 use Rattle.lattice.specs.Levels.{Levels}
-use Rattle.model.specs.Level.{is-open}
+use Rattle.model.specs.Levels.{is-open}
 use Rattle.codec.specs.Expressions.{Expr}
 use Rattle.script.specs.Code.{Code, Script}
-use Rattle.model.specs.Code.{assigns, even, needs}
+use Rattle.model.specs.Stretches.{assigns, fixed-time, needs}
 use Rattle.script.specs.Code.Code.{done, skip, assign, put, branch, loop, lock}
-use Rattle.model.specs.Machine.{Open, Thread, reserved, held-by, against, guard-of, guard}
-use Rattle.model.specs.Machine.Open.{in-branch, in-loop, in-lock}
-use Rattle.model.specs.Typing.{types, type-of}
+use Rattle.model.specs.Threads.{Open, Thread, reserved, held-by, against, guard-of, guard}
+use Rattle.model.specs.Threads.Open.{in-branch, in-loop, in-lock}
+use Rattle.model.specs.Inspection.{types, type-of}
 use Rattle.model.proofs.Unaltered.Tests.{and-false, or-cases, by-test, is-true, both}
 use Rattle.model.proofs.Unaltered.Under.{Under, under-zero, under-trans, under-left, under-least}
 use Rattle.model.proofs.Unaltered.Erased.{erase-thread, owned-erased, reserved-erased}
 use Rattle.model.proofs.Unaltered.Typed.{World, Stack, Threads, type-had, assign-parts, put-parts, branch-parts, loop-parts, lock-parts}
 
 pub record Quiet (c : Code) : Type 0 where
-  pub evens : T (even c)
+  pub evens : T (fixed-time c)
   pub names : needs c ≡ 0
 
 pub open-zero : (l : ℕ) → T (is-open l) → l ≡ 0
@@ -48,7 +48,7 @@ module _ {k : Levels} {sc : Script} {typing : List ℕ} (W : World k sc typing) 
       let rp = quiet (k .join t (type-of k sc typing e)) p (u .high) (over-closed u n) (ps .0) in
       let rq = quiet (k .join t (type-of k sc typing e)) q (u .high) (over-closed u n) (ps .1) in
       let rc = quiet t c h n (ps .2) in
-      record { evens = both (even p && even q) (even c) (both (even p) (even q) (rp .evens) (rq .evens)) (rc .evens); names = rw (rp .names, rq .names, rc .names) }
+      record { evens = both (fixed-time p && fixed-time q) (fixed-time c) (both (fixed-time p) (fixed-time q) (rp .evens) (rq .evens)) (rc .evens); names = rw (rp .names, rq .names, rc .names) }
   quiet t (loop e b c) h n ty = absurd (n (open-zero t (loop-parts k sc typing t e b c ty .0)))
   quiet t (lock m e b c) h n ty = absurd (n (open-zero t (lock-parts k sc typing t m e b c ty .0)))
 

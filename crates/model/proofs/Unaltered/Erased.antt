@@ -10,11 +10,13 @@ use lib.Seq.{map-set}
 use Rattle.lattice.specs.Levels.{Levels, Lawful}
 use Rattle.codec.specs.Expressions.{Expr}
 use Rattle.script.specs.Code.{Code, Script}
-use Rattle.model.specs.Code.{assigns}
+use Rattle.model.specs.Stretches.{assigns}
 use Rattle.codec.specs.Expressions.Op.{constant, variable, sample, held, binary, unary}
-use Rattle.model.specs.Machine.{Cell, blank, Open, Thread, ended, State, place, owned, reserved, guard-of, guard, eval, top, below, sample-at, apply-binary, apply-unary, raise, value-of, level-of, set-thread, set-cell, close-branch}
-use Rattle.model.specs.Machine.Open.{in-branch, in-loop, in-lock}
-use Rattle.model.specs.Typing.{opened}
+use Rattle.model.specs.Values.{Cell, blank, eval, top, below, sample-at, apply-binary, apply-unary}
+use Rattle.model.specs.Threads.{Open, Thread, ended, context, owned, reserved, guard-of, guard}
+use Rattle.model.specs.Machine.{State, raise, value-of, level-of, set-thread, set-cell, close-branch}
+use Rattle.model.specs.Threads.Open.{in-branch, in-loop, in-lock}
+use Rattle.model.specs.Levels.{opened}
 use Rattle.model.proofs.Unaltered.Tests.{and-false, getD-zeros}
 use Rattle.model.proofs.Unaltered.Under.{open-join, joined-open}
 
@@ -49,11 +51,11 @@ eval-erased cs tr (held t ∷ e) st = eval-erased cs tr e (pos (length (getD tr 
 eval-erased cs tr (binary b ∷ e) st = eval-erased cs tr e (apply-binary b (top (below st)) (top st) ∷ below (below st))
 eval-erased cs tr (unary u ∷ e) st = eval-erased cs tr e (apply-unary u (top st) ∷ below st)
 
-pub place-erased : (os : List Open) → place (map erase-open os) ≡ 0
-place-erased [] = refl
-place-erased (in-branch l w p q n ∷ os) = refl
-place-erased (in-loop e b n ∷ os) = place-erased os
-place-erased (in-lock m n ∷ os) = place-erased os
+pub context-erased : (os : List Open) → context (map erase-open os) ≡ 0
+context-erased [] = refl
+context-erased (in-branch l w p q n ∷ os) = refl
+context-erased (in-loop e b n ∷ os) = context-erased os
+context-erased (in-lock m n ∷ os) = context-erased os
 
 pub owned-erased : (os : List Open) → owned (map erase-open os) ≡ owned os
 owned-erased [] = refl

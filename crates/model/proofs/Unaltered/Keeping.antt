@@ -9,12 +9,14 @@ use lib.ListN.{getD}
 use Rattle.lattice.specs.Levels.{Levels}
 use Rattle.codec.specs.Expressions.{Expr}
 use Rattle.script.specs.Code.{Code, Script}
-use Rattle.model.specs.Code.{assigns}
+use Rattle.model.specs.Stretches.{assigns}
 use Rattle.script.specs.Code.Code.{done, skip, assign, put, branch, loop, lock}
-use Rattle.model.specs.Machine.{blank, Open, Pace, Thread, ended, State, Channel, place, guard, is-zero, level-of, value-of, raise, lag, at-code, set-thread, set-cell, set-cells, set-channel, close-branch, do-put, step-at, take-turn}
-use Rattle.model.specs.Machine.Open.{in-branch, in-loop, in-lock}
-use Rattle.model.specs.Machine.Pace.{running, idling}
-use Rattle.model.specs.Typing.{types, type-of}
+use Rattle.model.specs.Values.{blank, is-zero}
+use Rattle.model.specs.Threads.{Open, Pace, Thread, ended, context, guard, at-code}
+use Rattle.model.specs.Machine.{State, Channel, level-of, value-of, raise, lag, set-thread, set-cell, set-cells, set-channel, close-branch, do-put, step-at, take-turn, rules}
+use Rattle.model.specs.Threads.Open.{in-branch, in-loop, in-lock}
+use Rattle.model.specs.Threads.Pace.{running, idling}
+use Rattle.model.specs.Inspection.{types, type-of}
 use Rattle.model.proofs.Unaltered.Tests.{set-all, or-cases}
 use Rattle.model.proofs.Unaltered.Under.{Under, under-trans, under-least, under-open}
 use Rattle.model.proofs.Unaltered.Typed.{World, Stack, Typed, Kept, threads-at, threads-set, level-under, assign-parts, put-parts, branch-parts, loop-parts, lock-parts}
@@ -32,7 +34,7 @@ module _ {k : Levels} {sc : Script} {typing : List ℕ} (W : World k sc typing) 
 
   put-kept : (s : State) (i h : ℕ) (e : Expr) (os : List Open) → Kept k sc typing s → Kept k sc typing (do-put k sc s i h e os)
   unfolding do-put
-  put-kept s i h e os K = pick (k .flows (place os) (getD (sc .channel-levels) h 0)) _
+  put-kept s i h e os K = pick (k .flows (context os) (getD (sc .channel-levels) h 0)) _
     where
       pick : (b : Bool) (ch : Channel) → Kept k sc typing (cond b (set-channel s h ch) s)
       pick true ch = record { cells = K .cells; threads = K .threads }
@@ -100,7 +102,7 @@ module _ {k : Levels} {sc : Script} {typing : List ℕ} (W : World k sc typing) 
   step-at-kept s i (put x e c) running os K h =
       thread-kept (do-put k sc s i x e os) i (at-code c os) (put-kept s i x e os K) (record { level = h .level; code = put-parts k sc typing (h .level) x e c (h .code) .2; inside = h .inside })
   step-at-kept s i (branch e p q c) running os K h =
-      let l = k .join (place os) (level-of k sc s e) in
+      let l = k .join (context os) (level-of k sc s e) in
       let w = not (is-zero (value-of k sc s e)) in
       let u = entry-under W s K (h .level) os (h .inside) e in
       let ps = branch-parts k sc typing (h .level) e p q c (h .code) in
@@ -110,7 +112,7 @@ module _ {k : Levels} {sc : Script} {typing : List ℕ} (W : World k sc typing) 
       thread-kept s i (cond (is-zero (value-of k sc s e)) (at-code c os) (at-code b (in-loop e b c ∷ os))) K (loop-typed (h .level) e b c os (is-zero (value-of k sc s e)) (h .inside) (h .code))
   step-at-kept s i (lock m e b c) running os K h = thread-kept s i (at-code b (in-lock m c ∷ os)) K (lock-typed (h .level) m e b c os (h .inside) (h .code))
 
-  pub turn-kept : (s : State) (o : Option ℕ) → Kept k sc typing s → Kept k sc typing (take-turn k sc s o)
+  pub turn-kept : (s : State) (o : Option ℕ) → Kept k sc typing s → Kept k sc typing (take-turn (rules k sc) s o)
   turn-kept s none K = record { cells = K .cells; threads = K .threads }
   turn-kept s (some i) K =
       let t = getD (s .threads) i ended in

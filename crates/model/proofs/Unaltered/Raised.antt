@@ -7,7 +7,8 @@ use native.Mathlib.Omega.{arith}
 use lib.Dec.{T}
 use lib.ListN.{getD}
 use Rattle.lattice.specs.Levels.{Levels, Lawful}
-use Rattle.model.specs.Machine.{Cell, blank, raise}
+use Rattle.model.specs.Values.{Cell, blank}
+use Rattle.model.specs.Machine.{raise}
 use Rattle.model.proofs.Unaltered.Under.{Under, under-least}
 
 -- The y-th number from x on.

@@ -6,13 +6,15 @@ use mathlib.Core.List.{List, [], _∷_}
 use lib.Dec.{T}
 use lib.ListN.{getD, set}
 use Rattle.lattice.specs.Levels.{Levels, Lawful}
-use Rattle.model.specs.Level.{is-open}
+use Rattle.model.specs.Levels.{is-open}
 use Rattle.codec.specs.Expressions.{Expr}
 use Rattle.script.specs.Code.{Code, Script}
 use Rattle.script.specs.Code.Code.{assign, put, branch, loop, lock}
-use Rattle.model.specs.Machine.{Cell, blank, Open, Thread, ended, State, place, level-of}
-use Rattle.model.specs.Machine.Open.{in-branch, in-loop, in-lock}
-use Rattle.model.specs.Typing.{types, type-of}
+use Rattle.model.specs.Values.{Cell, blank}
+use Rattle.model.specs.Threads.{Open, Thread, ended, context}
+use Rattle.model.specs.Machine.{State, level-of}
+use Rattle.model.specs.Threads.Open.{in-branch, in-loop, in-lock}
+use Rattle.model.specs.Inspection.{types, type-of}
 use Rattle.model.proofs.Unaltered.Tests.{and-3, and-4}
 use Rattle.model.proofs.Unaltered.Under.{Under, under-refl, joined-under}
 
@@ -71,11 +73,11 @@ module _ {k : Levels} {sc : Script} {typing : List ℕ} (W : World k sc typing) 
   pub level-under : (s : State) → Cells k sc typing (s .cells) → (e : Expr) → Under k (level-of k sc s e) (type-of k sc typing e)
   level-under s h e = joined-under (W .laws) (λ x. getD (s .cells) x blank .level) (λ x. getD typing x 0) (λ t. getD (sc .track-levels) t 0) h (W .track-had) e 0 0 (under-refl (W .laws) (W .laws .open-has))
 
-  pub place-under : (t : ℕ) (os : List Open) → Stack k sc typing t os → Under k (place os) t
-  place-under t [] h = rw h (under-refl (W .laws) (W .laws .open-has))
-  place-under t (in-branch l w p q n ∷ os) h = h .1
-  place-under t (in-loop e b n ∷ os) h = rw (h .0) (place-under 0 os (h .2))
-  place-under t (in-lock m n ∷ os) h = rw (h .0) (place-under 0 os (h .2))
+  pub context-under : (t : ℕ) (os : List Open) → Stack k sc typing t os → Under k (context os) t
+  context-under t [] h = rw h (under-refl (W .laws) (W .laws .open-has))
+  context-under t (in-branch l w p q n ∷ os) h = h .1
+  context-under t (in-loop e b n ∷ os) h = rw (h .0) (context-under 0 os (h .2))
+  context-under t (in-lock m n ∷ os) h = rw (h .0) (context-under 0 os (h .2))
 
 pub threads-at : {k : Levels} {sc : Script} {typing : List ℕ} (ts : List Thread) (i : ℕ) → Threads k sc typing ts → Typed k sc typing (getD ts i ended .code) (getD ts i ended .inside)
 threads-at [] i h = record { level = 0; code = tt; inside = refl }

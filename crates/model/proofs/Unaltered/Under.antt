@@ -7,8 +7,8 @@ use lib.ListN.{getD}
 use Rattle.lattice.specs.Levels.{Levels, Lawful}
 use Rattle.codec.specs.Expressions.{Expr}
 use Rattle.codec.specs.Expressions.Op.{constant, variable, sample, held, binary, unary}
-use Rattle.model.specs.Machine.{joined}
-use Rattle.model.specs.Secrecy.{all-had}
+use Rattle.model.specs.Values.{joined}
+use Rattle.model.specs.Levels.{all-had}
 use Rattle.model.proofs.Unaltered.Tests.{and-left, and-right}
 
 pub record Under (k : Levels) (a b : ℕ) : Type 0 where
