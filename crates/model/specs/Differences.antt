@@ -14,14 +14,11 @@ use Rattle.model.specs.Automaton.Input.{at-branch, at-merge}
 use Rattle.lattice.specs.Orders.{two-point}
 use Rattle.model.specs.Follows.{first}
 use Rattle.model.specs.Together.{hears, is-some}
+use Rattle.model.specs.Small.{small, secret, one}
 
--- One variable, one closed track, one open channel, one lock, one thread.
+-- The script of one thread.
 abbrev pub alone : Code → Script
-alone c = record { kind = 1; locks = 0; variables = 1; track-levels = 1 ∷ []; track-sizes = 1 ∷ []; channel-levels = 0 ∷ []; channel-sizes = 1 ∷ []; codes = c ∷ [] }
-
--- The closed track's first sample, which is 0 until it is fed.
-abbrev pub secret : Expr
-secret = constant (pos 0) ∷ sample 0 ∷ []
+alone c = small (c ∷ [])
 
 -- A closed if of which one way is c and the other empty: the machine bars it; the automaton lets the empty way on, and to its end or not.
 pub record Treated (c : Code) (at-its-end : Bool) : Type 0 where
@@ -36,7 +33,7 @@ abbrev pub while-x : Code
 while-x = loop (variable 0 ∷ []) done done
 
 abbrev pub with-one : Code
-with-one = lock 1 (constant (pos 1) ∷ []) while-x done
+with-one = lock 1 one while-x done
 
 abbrev pub with-x : Code
 with-x = lock 1 (variable 0 ∷ []) done done

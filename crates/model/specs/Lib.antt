@@ -16,3 +16,6 @@ pub mod Bottoms
 pub mod Runs
 pub mod Table
 pub mod Differences
+pub mod Examples
+pub mod Small
+pub mod Shortcuts

@@ -17,6 +17,8 @@ ghost use Rattle.model.specs.Bottoms.{Bottoms-are-not-read};
 ghost use Rattle.model.specs.Table.{As-shown};
 ghost use Rattle.model.specs.Runs.{Calls-reach};
 ghost use Rattle.model.specs.Differences.{Differs};
+ghost use Rattle.model.specs.Examples.{Examples};
+ghost use Rattle.model.specs.Shortcuts.{Shortcuts-leak};
 
 // Who gets the next turn: told which threads are ready, a scheduler answers a thread or a rest.
 pub trait Scheduler {
@@ -93,6 +95,20 @@ pub fn two_levels_are_lawful() -> u8
 // The automaton never reads how many ⊥ a word has.
 pub fn bottoms_are_not_read() -> u8
     ensures { λ _. ⌜ Bottoms-are-not-read ⌝ }
+{
+    0
+}
+
+// The worked examples: a quotient toward zero, a divisor of nought, two durations, a mark, a put that is left out, a join and a flow.
+pub fn examples_hold() -> u8
+    ensures { λ _. ⌜ Examples ⌝ }
+{
+    0
+}
+
+// Three shortcuts, and a scheduler that does not keep its law, each leak on a small script; the machine itself does not.
+pub fn shortcuts_leak() -> u8
+    ensures { λ _. ⌜ Shortcuts-leak ⌝ }
 {
     0
 }
