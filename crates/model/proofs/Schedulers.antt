@@ -1,12 +1,8 @@
 -- What follows from the law of schedulers, and that the two of this machine keep it.
-use Prim.Native.Nat.{ℕ, zero, suc, _%_}
-use mathlib.Core.Path.{_≡_, refl, sym, ap, _∙_, subst}
-use mathlib.Core.Bool.{Bool, true, false, cond}
-use mathlib.Core.List.{List, [], _∷_}
+use Prim.Native.Nat.{ℕ}
+use mathlib.Core.Path.{_≡_, refl}
 use mathlib.Core.Option.{Option, none, some}
-use lib.Dec.{T}
-use lib.ListN.{getD}
-use Rattle.model.specs.Schedulers.{Meaning, Obedient, Rests, first-after, round-robin, pick-list}
+use Rattle.model.specs.Schedulers.{Meaning, Obedient, Rests}
 
 pub rests : {S : Type 0} (schedule : Meaning S) → Obedient schedule → Rests schedule
 rests schedule law g rs none-ready = go (schedule g rs .0) refl

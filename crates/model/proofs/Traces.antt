@@ -1,18 +1,17 @@
 -- Traces whose links are what the model performs: secrecy carries over.
-use mathlib.Core.Path.{_≡_, refl, sym, ap, _∙_, subst}
+use mathlib.Core.Path.{_≡_, refl, sym, ap, _∙_}
 use mathlib.Core.Bool.{Bool, true, false, cond}
-use mathlib.Core.List.{List, [], _∷_, map}
+use mathlib.Core.List.{List, [], _∷_}
 use Prim.Native.Nat.{ℕ}
-use lib.Dec.{T}
 use Rattle.lattice.specs.Levels.{Levels, Lawful}
 use Rattle.script.specs.Code.{Script}
 use Rattle.model.specs.Machine.{State}
 use Rattle.model.specs.Schedulers.{Meaning, Obedient}
 use Rattle.model.specs.Calls.{Call, Answer, begin, perform}
 use Rattle.model.specs.Levels.{Levelled}
-use Rattle.model.specs.Secrecy.{Secret, left-out, kept, kept-answers}
+use Rattle.model.specs.Secrecy.{left-out, kept, kept-answers}
 use Rattle.model.specs.Traces.{Asked, Trace, calls-of, answers-of, kept-asked, Blind}
-use Rattle.model.specs.Traces.Trace.{stop, link}
+use Rattle.model.specs.Traces.Trace.{link}
 use Rattle.model.proofs.Confidential.Secret.{secret}
 
 -- The calls that are kept, and those of what is kept.

@@ -3,9 +3,8 @@ use mathlib.Core.Path.{_≡_}
 use mathlib.Core.Bool.{Bool, true, false}
 use mathlib.Core.List.{[], _∷_}
 use lib.IntN.{pos}
-use Rattle.codec.specs.Expressions.{Expr}
 use Rattle.script.specs.Code.{Code, Script}
-use Rattle.codec.specs.Expressions.Op.{constant, variable, sample}
+use Rattle.codec.specs.Expressions.Op.{constant, variable}
 use Rattle.script.specs.Code.Code.{done, branch, loop, lock}
 use Rattle.model.specs.Machine.{status}
 use Rattle.model.specs.Machine.Status.{barred}

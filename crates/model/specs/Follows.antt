@@ -1,15 +1,14 @@
 -- With two levels and every channel open, the machine's verdicts are those of the published automaton, but for the departures.
-use Prim.Native.Nat.{ℕ, zero, suc, _+_, _<_, max}
+use Prim.Native.Nat.{ℕ, zero, suc, _+_, _<_}
 use mathlib.Core.Path.{_≡_}
 use mathlib.Core.Bool.{Bool, true, false, _&&_, _||_, not, cond}
 use mathlib.Core.List.{List, [], _∷_, _++_}
 use mathlib.Core.Logic.{_⊎_}
 use mathlib.Core.Option.{none, some}
 use lib.IntN.{ℤ, pos}
-use lib.Dec.{T, leb, ltb}
+use lib.Dec.{T}
 use lib.ListN.{getD}
 use lib.Bits.{bitOr}
-use Rattle.lattice.specs.Levels.{Levels}
 use Rattle.model.specs.Levels.{is-open}
 use Rattle.codec.specs.Expressions.{Expr}
 use Rattle.script.specs.Code.{Code, Script}

@@ -2,14 +2,14 @@
 -- its closed track, which the machine itself does not.
 use Prim.Native.Nat.{ℕ}
 use mathlib.Core.Path.{_≡_}
-use mathlib.Core.Bool.{true, false, not, cond}
+use mathlib.Core.Bool.{not, cond}
 use mathlib.Core.List.{List, [], _∷_, map}
 use mathlib.Core.Logic.{_≢_}
 use mathlib.Core.Option.{some}
 use lib.IntN.{ℤ, pos}
 use lib.ListN.{length, getD}
 use Rattle.lattice.specs.Orders.{two-point}
-use Rattle.codec.specs.Expressions.Op.{constant, variable, held}
+use Rattle.codec.specs.Expressions.Op.{variable, held}
 use Rattle.script.specs.Code.{Code, Script}
 use Rattle.script.specs.Code.Code.{done, skip, assign, put, branch, loop, lock}
 use Rattle.model.specs.Stretches.{assigns}

@@ -5,19 +5,17 @@ use mathlib.Core.Bool.{Bool, true, false, _&&_, _||_, not, cond}
 use mathlib.Core.List.{List, [], _∷_, _++_}
 use mathlib.Core.Option.{Option, none, some}
 use lib.IntN.{ℤ}
-use lib.Dec.{T, ltb}
+use lib.Dec.{T}
 use lib.ListN.{getD}
 use Rattle.codec.specs.Expressions.{Expr}
 use Rattle.script.specs.Code.{Code, Script}
 use Rattle.model.specs.Stretches.{fixed-time}
-use Rattle.codec.specs.Expressions.Op.{constant, variable, sample, held, binary, unary}
 use Rattle.script.specs.Code.Code.{done, skip, assign, put, branch, loop, lock}
 use Rattle.model.specs.Threads.{Open, Pace, ended, at-code}
-use Rattle.model.specs.Machine.{State, Status, value-of, status-at, status, is-ready, is-finished, is-barred, lag, set-thread, step-at, take-turn, set-track, rules}
+use Rattle.model.specs.Machine.{State, value-of, status-at, status, is-ready, is-finished, is-barred, lag, set-thread, step-at, take-turn, set-track, rules}
 use Rattle.model.specs.Values.{is-zero}
 use Rattle.model.specs.Threads.Open.{in-branch, in-loop, in-lock}
 use Rattle.model.specs.Threads.Pace.{running, idling}
-use Rattle.model.specs.Machine.Status.{ready, finished, waiting, barred}
 use Rattle.model.specs.Calls.{begin}
 use Rattle.model.specs.Automaton.{Q, Pool, Input, Output, apart, all-bottom, and-then, carries, react, extract, update}
 use Rattle.model.specs.Automaton.Input.{at-branch, at-merge, at-sync, at-skip, at-assign, at-output}

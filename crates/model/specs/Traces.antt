@@ -1,13 +1,13 @@
 -- Traces of the calls themselves: each link is what the call's own contract ensures. Nothing here says what a call does.
 use mathlib.Core.Path.{_≡_}
-use mathlib.Core.Bool.{Bool, true, false, cond}
+use mathlib.Core.Bool.{Bool, cond}
 use mathlib.Core.List.{List, [], _∷_, map}
 use Prim.Native.Nat.{ℕ}
 use lib.Dec.{T}
 use Rattle.lattice.specs.Levels.{Levels}
 use Rattle.script.specs.Code.{Script}
 use Rattle.model.specs.Calls.{Call, Answer}
-use Rattle.model.specs.Secrecy.{left-out, kept}
+use Rattle.model.specs.Secrecy.{left-out}
 
 -- A call as it was made, and what it answered.
 pub record Asked : Type 0 where

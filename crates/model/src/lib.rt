@@ -9,7 +9,7 @@ ghost use lib.ListN.{getD};
 ghost use Rattle.lattice.specs.Levels.{Lawful};
 ghost use Rattle.lattice.specs.Orders.{two-point};
 ghost use Rattle.model.specs.Schedulers.{Rests};
-ghost use Rattle.model.specs.Secrecy.{Every-run-is-secret};
+ghost use Rattle.model.specs.Secrecy.{Every-run-is-secret, Every-view-is-blind};
 ghost use Rattle.model.specs.Inspection.{Every-typed-run-is-unaltered};
 ghost use Rattle.model.specs.Follows.{Follows};
 ghost use Rattle.model.specs.Together.{Gives-its-verdicts};
@@ -39,6 +39,13 @@ pub fn rests_when_none_is_ready<S: Scheduler>() -> u8
 // What a reader is answered does not depend on what may not flow to that reader: every kind of levels, every script, this scheduler.
 pub fn secrecy_stands<S: Scheduler>() -> u8
     ensures { λ _. ⌜ Every-run-is-secret (S·Scheduler .meaning) ⌝ }
+{
+    0
+}
+
+// The same of any view, so of readers who pool what they see; it takes four laws of the kind of levels and no more.
+pub fn every_view_is_blind<S: Scheduler>() -> u8
+    ensures { λ _. ⌜ Every-view-is-blind (S·Scheduler .meaning) ⌝ }
 {
     0
 }

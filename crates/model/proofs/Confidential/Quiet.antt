@@ -2,7 +2,6 @@
 use mathlib.Core.Path.{_≡_, refl, _∙_}
 use mathlib.Core.Bool.{Bool, true, false, _&&_, _||_}
 use mathlib.Core.List.{List, [], _∷_}
-use mathlib.Core.Logic.{_⊎_, inl, inr}
 use Prim.Native.Nat.{ℕ, suc, _<_, _+_, zero-le, suc-le-suc}
 use native.Mathlib.Omega.{arith}
 use lib.IntN.{pos, negsuc}
@@ -22,30 +21,11 @@ use Rattle.model.specs.Threads.Open.{in-branch, in-lock}
 use Rattle.model.specs.Threads.Pace.{running, idling}
 use Rattle.model.specs.Machine.Status.{ready}
 use Rattle.model.proofs.Confidential.Masks.{Lies, lies-zero, lies-trans, lies-left, lies-right, absorb}
-use Rattle.model.proofs.Confidential.Slots.{T-true, T-false}
+use Rattle.model.proofs.Tests.{is-true, and-left, and-right, or-left, or-right}
+use Rattle.model.proofs.Confidential.Slots.{T-false}
 use Rattle.model.proofs.Confidential.View.{View, Hid, hid-not-open}
 use Rattle.model.proofs.Confidential.Stack.{In, assigned}
 use Rattle.model.proofs.Confidential.Stack.In.{here, there}
-
-pub and-l : (a b : Bool) → T (a && b) → T a
-and-l true b h = tt
-and-l false b h = h
-
-pub and-r : (a b : Bool) → T (a && b) → T b
-and-r true b h = h
-and-r false b h = absurd h
-
-pub or-l : (a b : Bool) → T a → T (a || b)
-or-l true b h = tt
-or-l false b h = absurd h
-
-pub or-r : (a b : Bool) → T b → T (a || b)
-or-r true b h = tt
-or-r false b h = h
-
-pub or-either : (a b : Bool) → T (a || b) → T a ⊎ T b
-or-either true b h = inl tt
-or-either false b h = inr h
 
 -- The outermost branch that is not seen: both ways, what follows it, and the blocks around it.
 pub record Way : Type 0 where
@@ -68,10 +48,10 @@ pub record Within (y : Way) (c : Code) : Type 0 where
 
 module _ {y : Way} where
   pub within-p : T (fixed-time (y .p)) → Within y (y .p)
-  within-p h = record { flat = h; fewer = λ x t. or-l (assigns x (y .p)) (assigns x (y .q)) t; locks = lies-left (needs (y .p)) (needs (y .q)) }
+  within-p h = record { flat = h; fewer = λ x t. or-left (assigns x (y .p)) (assigns x (y .q)) t; locks = lies-left (needs (y .p)) (needs (y .q)) }
 
   pub within-q : T (fixed-time (y .q)) → Within y (y .q)
-  within-q h = record { flat = h; fewer = λ x t. or-r (assigns x (y .p)) (assigns x (y .q)) t; locks = lies-right (needs (y .p)) (needs (y .q)) }
+  within-q h = record { flat = h; fewer = λ x t. or-right (assigns x (y .p)) (assigns x (y .q)) t; locks = lies-right (needs (y .p)) (needs (y .q)) }
 
   pub within-done : Within y done
   within-done = record { flat = tt; fewer = λ x t. absurd t; locks = lies-zero (mask y) }
@@ -80,43 +60,43 @@ module _ {y : Way} where
   within-skip c h = record { flat = h .flat; fewer = h .fewer; locks = h .locks }
 
   pub within-assign : (x : ℕ) (e : Expr) (c : Code) → Within y (assign x e c) → Within y c
-  within-assign x e c h = record { flat = h .flat; fewer = λ z t. h .fewer z (or-r (lib.Dec.eqb z x) (assigns z c) t); locks = h .locks }
+  within-assign x e c h = record { flat = h .flat; fewer = λ z t. h .fewer z (or-right (lib.Dec.eqb z x) (assigns z c) t); locks = h .locks }
 
   pub within-put : (n : ℕ) (e : Expr) (c : Code) → Within y (put n e c) → Within y c
   within-put n e c h = record { flat = h .flat; fewer = h .fewer; locks = h .locks }
 
   pub within-branch-p : (e : Expr) (p q c : Code) → Within y (branch e p q c) → Within y p
   within-branch-p e p q c h = record {
-    flat = and-l (fixed-time p) (fixed-time q) (and-l (fixed-time p && fixed-time q) (fixed-time c) (h .flat));
-    fewer = λ x t. h .fewer x (or-l (assigns x p || assigns x q) (assigns x c) (or-l (assigns x p) (assigns x q) t));
+    flat = and-left (fixed-time p) (fixed-time q) (and-left (fixed-time p && fixed-time q) (fixed-time c) (h .flat));
+    fewer = λ x t. h .fewer x (or-left (assigns x p || assigns x q) (assigns x c) (or-left (assigns x p) (assigns x q) t));
     locks = lies-trans (lies-trans (lies-left (needs p) (needs q)) (lies-left (bitOr (needs p) (needs q)) (needs c))) (h .locks);
   }
 
   pub within-branch-q : (e : Expr) (p q c : Code) → Within y (branch e p q c) → Within y q
   within-branch-q e p q c h = record {
-    flat = and-r (fixed-time p) (fixed-time q) (and-l (fixed-time p && fixed-time q) (fixed-time c) (h .flat));
-    fewer = λ x t. h .fewer x (or-l (assigns x p || assigns x q) (assigns x c) (or-r (assigns x p) (assigns x q) t));
+    flat = and-right (fixed-time p) (fixed-time q) (and-left (fixed-time p && fixed-time q) (fixed-time c) (h .flat));
+    fewer = λ x t. h .fewer x (or-left (assigns x p || assigns x q) (assigns x c) (or-right (assigns x p) (assigns x q) t));
     locks = lies-trans (lies-trans (lies-right (needs p) (needs q)) (lies-left (bitOr (needs p) (needs q)) (needs c))) (h .locks);
   }
 
   pub within-branch : (e : Expr) (p q c : Code) → Within y (branch e p q c) → Within y c
   within-branch e p q c h = record {
-    flat = and-r (fixed-time p && fixed-time q) (fixed-time c) (h .flat);
-    fewer = λ x t. h .fewer x (or-r (assigns x p || assigns x q) (assigns x c) t);
+    flat = and-right (fixed-time p && fixed-time q) (fixed-time c) (h .flat);
+    fewer = λ x t. h .fewer x (or-right (assigns x p || assigns x q) (assigns x c) t);
     locks = lies-trans (lies-right (bitOr (needs p) (needs q)) (needs c)) (h .locks);
   }
 
   pub within-lock-in : (m : ℕ) (e : Expr) (b c : Code) → Within y (lock m e b c) → Within y b
   within-lock-in m e b c h = record {
-    flat = and-r (is-literal-one e) (fixed-time b) (and-l (is-literal-one e && fixed-time b) (fixed-time c) (h .flat));
-    fewer = λ x t. h .fewer x (or-l (assigns x b) (assigns x c) t);
+    flat = and-right (is-literal-one e) (fixed-time b) (and-left (is-literal-one e && fixed-time b) (fixed-time c) (h .flat));
+    fewer = λ x t. h .fewer x (or-left (assigns x b) (assigns x c) t);
     locks = lies-trans (lies-trans (lies-right m (needs b)) (lies-left (bitOr m (needs b)) (needs c))) (h .locks);
   }
 
   pub within-lock : (m : ℕ) (e : Expr) (b c : Code) → Within y (lock m e b c) → Within y c
   within-lock m e b c h = record {
-    flat = and-r (is-literal-one e && fixed-time b) (fixed-time c) (h .flat);
-    fewer = λ x t. h .fewer x (or-r (assigns x b) (assigns x c) t);
+    flat = and-right (is-literal-one e && fixed-time b) (fixed-time c) (h .flat);
+    fewer = λ x t. h .fewer x (or-right (assigns x b) (assigns x c) t);
     locks = lies-trans (lies-right (bitOr m (needs b)) (needs c)) (h .locks);
   }
 
@@ -208,11 +188,11 @@ module _ (v : View) {y : Way} {l : ℕ} {w : Bool} where
   run-ready s i (skip c) hl a h = refl
   run-ready s i (assign x e c) hl a h = refl
   run-ready s i (put n e c) hl a h = refl
-  run-ready s i (branch e p q c) hl a h = rw (T-true (fixed-time p && fixed-time q) (and-l (fixed-time p && fixed-time q) (fixed-time c) (h .flat)), hid-not-open v (above-context hl a)) refl
+  run-ready s i (branch e p q c) hl a h = rw (is-true (fixed-time p && fixed-time q) (and-left (fixed-time p && fixed-time q) (fixed-time c) (h .flat)), hid-not-open v (above-context hl a)) refl
   run-ready s i (loop e b c) hl a h = absurd (h .flat)
   run-ready s i (lock m e b c) hl a h =
       rw (
-        literal-level (v .k) (λ x. getD (s .cells) x blank .level) (λ t. getD (v .sc .track-levels) t 0) e (and-l (is-literal-one e) (fixed-time b) (and-l (is-literal-one e && fixed-time b) (fixed-time c) (h .flat))),
+        literal-level (v .k) (λ x. getD (s .cells) x blank .level) (λ t. getD (v .sc .track-levels) t 0) e (and-left (is-literal-one e) (fixed-time b) (and-left (is-literal-one e && fixed-time b) (fixed-time c) (h .flat))),
         hid-not-open v (above-context hl a),
       ) refl
 

@@ -15,13 +15,14 @@ use Rattle.model.specs.Machine.{Channel, unused, State, value-of, set-thread, 
 use Rattle.model.specs.Threads.{Open, Pace, Thread, ended, context, at-code, at-idle, guard}
 use Rattle.model.specs.Threads.Open.{in-branch, in-lock}
 use Rattle.model.specs.Threads.Pace.{running}
-use Rattle.model.proofs.Confidential.Slots.{set-pred, cond-ind, T-true}
+use Rattle.model.proofs.Confidential.Slots.{set-pred, cond-ind}
+use Rattle.model.proofs.Tests.{is-true, and-left, or-left}
 use Rattle.model.proofs.Confidential.View.{View, Had, Seen, Hid, hid-left, hid-right, join-had, had-zero, seen-down, channel-had}
 use Rattle.model.proofs.Confidential.Agree.{Agree, CR, cr-same, cr-hid, agree-same, channel-level, level-had}
 use Rattle.model.proofs.Confidential.Stack.{In, Guards, assigned, guard-had, guard-over}
 use Rattle.model.proofs.Confidential.SoundStep.{context-had}
 use Rattle.model.proofs.Confidential.Raise.{raise-pred, raise-long}
-use Rattle.model.proofs.Confidential.Quiet.{Way, base, Within, Above, Quiet, above-in, above-context, and-l, or-l, within-skip, within-assign, within-put, within-branch, within-branch-p, within-branch-q, within-lock, within-lock-in, within-lock-mask}
+use Rattle.model.proofs.Confidential.Quiet.{Way, base, Within, Above, Quiet, above-in, above-context, within-skip, within-assign, within-put, within-branch, within-branch-p, within-branch-q, within-lock, within-lock-in, within-lock-mask}
 use Rattle.model.proofs.Confidential.Quiet.Above.{at-base, in-br, in-lk}
 use Rattle.model.proofs.Confidential.Quiet.Quiet.{runs, waits, waits-last}
 use Rattle.model.proofs.Confidential.Alike.{Safe}
@@ -32,8 +33,8 @@ pub data After (v : View) (y : Way) (l : ℕ) (w : Bool) (i : ℕ) (s u : State)
       → Quiet v y l w (t .code) (t .pace) (t .inside) n → After v y l w i s u n
 
 pub lag-duration : (p q : Code) (b : Bool) → T (fixed-time p && fixed-time q) → duration (cond b p q) + lag b p q ≡ max (duration p) (duration q)
-lag-duration p q true h = rw (T-true (fixed-time p && fixed-time q) h) (omega arith)
-lag-duration p q false h = rw (T-true (fixed-time p && fixed-time q) h) (omega arith)
+lag-duration p q true h = rw (is-true (fixed-time p && fixed-time q) h) (omega arith)
+lag-duration p q false h = rw (is-true (fixed-time p && fixed-time q) h) (omega arith)
 
 either-within : {y : Way} (x : ℕ) (p q : Code) → Within y p → Within y q → T (assigned x p q) → T (assigned x (y .p) (y .q))
 either-within x p q hp hq t = go (assigns x p) (assigns x q) (hp .fewer x) (hq .fewer x) t
@@ -123,7 +124,7 @@ module _ (v : View) {y : Way} {l : ℕ} {w : Bool} (hl : Hid v l) (s : State) (i
     run-step done n h e = done-step n a e
     run-step (skip c) n h e = goes s (at-code c os) (agree-same v s) refl refl (runs a (within-skip c h) (omega arith))
     run-step (assign x z c) n h e =
-        let t = h .fewer x (or-l (eqb x x) (assigns x c) (eqb-refl x)) in
+        let t = h .fewer x (or-left (eqb x x) (assigns x c) (eqb-refl x)) in
         goes (set-cell s x _) (at-code c os)
         (cell-quiet x _ t (hid-right v (level-had v s (hs .cells) z) (guard-had v x (s .threads) 0 (λ j. hs .guards j .had) (had-zero v)) (guard-hid x t)))
         refl refl (runs a (within-assign x z c h) (omega arith))
@@ -136,7 +137,7 @@ module _ (v : View) {y : Way} {l : ℕ} {w : Bool} (hl : Hid v l) (s : State) (i
         let b = not (is-zero (value-of (v .k) (v .sc) s z)) in
         goes (set-cells s _) _ (raise-quiet p q _ hp hq (join-had v hh hz)) refl refl
         (runs (in-br a (hid-left v hh hz context-hid) hp hq (within-branch z p q c h)) (one-way b hp hq)
-        (omega (arith, lag-duration p q b (and-l (fixed-time p && fixed-time q) (fixed-time c) (h .flat)))))
+        (omega (arith, lag-duration p q b (and-left (fixed-time p && fixed-time q) (fixed-time c) (h .flat)))))
     run-step (loop z b c) n h e = absurd (h .flat)
     run-step (lock x z b c) n h e =
         goes s (at-code b (in-lock x c ∷ os)) (agree-same v s) refl refl

@@ -10,7 +10,8 @@ use lib.ListN.{length, getD}
 use Rattle.lattice.specs.Levels.{Levels}
 use Rattle.model.specs.Values.{Cell, blank}
 use Rattle.model.specs.Machine.{raise}
-use Rattle.model.proofs.Confidential.Slots.{cond-ind, T-true}
+use Rattle.model.proofs.Confidential.Slots.{cond-ind}
+use Rattle.model.proofs.Tests.{is-true}
 
 abbrev pub raised : Levels → ℕ → Cell → Cell
 raised k l c = record { value = c .value; level = k .join (c .level) l }
@@ -32,7 +33,7 @@ module _ (k : Levels) (m : ℕ → Bool) (l : ℕ) where
 
   marked-go : (P : Cell → Type 0) (cs : List Cell) (x j n : ℕ) → n ≡ x + j → T (m n) → j < length cs → P (raised k l (getD cs j blank)) → P (getD (raise k m l x cs) j blank)
   marked-go P [] x j n e t b h = absurd (omega arith)
-  marked-go P (c ∷ cs) x zero n e t b h = subst (λ (y : Bool). P (cond y (raised k l c) c)) (sym (T-true (m x) (subst (λ (y : ℕ). T (m y)) (e ∙ add-zero x) t))) h
+  marked-go P (c ∷ cs) x zero n e t b h = subst (λ (y : Bool). P (cond y (raised k l c) c)) (sym (is-true (m x) (subst (λ (y : ℕ). T (m y)) (e ∙ add-zero x) t))) h
   marked-go P (c ∷ cs) x (suc j) n e t b h = marked-go P cs (suc x) j n (omega arith) t (omega arith) h
 
   pub raise-marked : (P : Cell → Type 0) (cs : List Cell) (j : ℕ) → T (m j) → j < length cs → P (raised k l (getD cs j blank)) → P (getD (raise k m l 0 cs) j blank)

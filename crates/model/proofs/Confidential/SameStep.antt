@@ -25,7 +25,8 @@ use Rattle.model.proofs.Confidential.Agree.{CR, Ex, cr-make, channel-level}
 use Rattle.model.proofs.Confidential.Stack.{HadStack, assigned}
 use Rattle.model.proofs.Confidential.SoundStep.{context-had}
 use Rattle.model.proofs.Confidential.Raise.{raise-both, raise-long, raised}
-use Rattle.model.proofs.Confidential.Quiet.{within-p, within-q, and-l, and-r}
+use Rattle.model.proofs.Confidential.Quiet.{within-p, within-q}
+use Rattle.model.proofs.Tests.{and-left, and-right}
 use Rattle.model.proofs.Confidential.Quiet.Above.{at-base}
 use Rattle.model.proofs.Confidential.Quiet.Quiet.{runs}
 use Rattle.model.proofs.Confidential.QuietStep.{lag-duration, one-way}
@@ -166,8 +167,8 @@ module _ (v : View) where
             (at-code (cond (not (is-zero (val t e))) p q) (in-branch (v .k .join (context os) (lev t e)) (not (is-zero (val t e))) p q c ∷ os))
         shuts o =
             let flat = even-of (fixed-time p && fixed-time q) (is-open (v .k .join (context os) (lev s e))) (hid-not-open v o) (not-barred _ _ r) in
-            let hp = within-p {y = record { p = p; q = q; next = c; rest = os }} (and-l (fixed-time p) (fixed-time q) flat) in
-            let hq = within-q {y = record { p = p; q = q; next = c; rest = os }} (and-r (fixed-time p) (fixed-time q) flat) in
+            let hp = within-p {y = record { p = p; q = q; next = c; rest = os }} (and-left (fixed-time p) (fixed-time q) flat) in
+            let hq = within-q {y = record { p = p; q = q; next = c; rest = os }} (and-right (fixed-time p) (fixed-time q) flat) in
             apart (record { p = p; q = q; next = c; rest = os }) (suc (max (duration p) (duration q))) _ _ _ _ o (lr-hid-right v lr o) (fits-mask e p q c os f) (fits-next e p q c f)
             (runs at-base (one-way (not (is-zero (val s e))) hp hq) (omega (arith, lag-duration p q (not (is-zero (val s e))) flat)))
             (runs at-base (one-way (not (is-zero (val t e))) hp hq) (omega (arith, lag-duration p q (not (is-zero (val t e))) flat)))

@@ -1,7 +1,6 @@
 -- What a reader finds does not depend on what may not flow to that reader.
 use mathlib.Core.Path.{_≡_, refl, sym, ap₂, subst}
 use mathlib.Core.Bool.{Bool, true, false, cond}
-use mathlib.Core.Logic.{⊎-elim}
 use mathlib.Core.List.{List, [], _∷_, map}
 use Prim.Native.Nat.{ℕ, zero, suc}
 use lib.Dec.{T}
@@ -14,11 +13,10 @@ use Rattle.model.specs.Machine.{State}
 use Rattle.model.specs.Schedulers.{Meaning, Obedient}
 use Rattle.model.specs.Calls.{Call, Answer, begin, perform}
 use Rattle.model.specs.Levels.{Levelled}
-use Rattle.model.specs.Secrecy.{Secret, left-out, kept, kept-answers}
+use Rattle.model.specs.Secrecy.{Bounded, IsView, Every-view-is-blind, Secret, left-out, kept, kept-answers}
 use Rattle.model.proofs.Confidential.View.{View, Had, had-zero}
 use Rattle.model.proofs.Confidential.Agree.{agree-same}
 use Rattle.model.proofs.Confidential.Stack.{Guards, guards-nil}
-use Rattle.model.proofs.Confidential.Quiet.{and-l, and-r, or-l, or-r, or-either}
 use Rattle.model.proofs.Confidential.Threads.{Fits}
 use Rattle.model.proofs.Confidential.Threads.TR.{same}
 use Rattle.model.proofs.Confidential.Alike.{Safe}
@@ -113,18 +111,16 @@ module _ (v : View) where
     pub secret-view : (g : G) (xs ys : List Call) → left xs ≡ left ys → told xs (begin (v .sc)) g ≡ told ys (begin (v .sc)) g
     secret-view g xs ys e = alike-answers xs ys _ _ g begin-pair e
 
--- One reader sees the levels that flow there.
-reader-view : (k : Levels) (sc : Script) → Lawful k → Levelled k sc → (r : ℕ) → T (k .has r) → View
-reader-view k sc law lev r h = record {
-  k = k;
-  sc = sc;
-  seen = λ l. k .flows l r;
-  law = law;
-  levelled = lev;
-  open-seen = law .open-least r h;
-  down = λ a b ha hb f s. law .flows-trans a b r ha hb h f s;
-}
+-- Secrecy from a view, by four laws of the kind of levels.
+pub blind : {S : Type 0} {schedule : Meaning S} → Obedient schedule → Every-view-is-blind schedule
+blind {schedule = schedule} giver k sc law lev seen view g xs ys e = secret-view (record { k = k; sc = sc; seen = seen; law = law; levelled = lev; view = view }) schedule giver g xs ys e
 
-pub secret : {k : Levels} {sc : Script} {G : Type 0} {schedule : Meaning G} → Lawful k → Levelled k sc → Obedient schedule → Secret k sc schedule
-unfolding reader-view
-secret {k} {sc} {schedule = schedule} law lev giver reader h g xs ys e = secret-view (reader-view k sc law lev reader h) schedule giver g xs ys e
+bounds : {k : Levels} → Lawful k → Bounded k
+bounds law = record { open-has = law .open-has; join-has = law .join-has; join-left = law .join-left; join-right = law .join-right }
+
+-- What one reader sees is a view: open flows to every reader, and flow is transitive.
+reader-view : (k : Levels) → Lawful k → (r : ℕ) → T (k .has r) → IsView k (λ l. k .flows l r)
+reader-view k law r h = record { open-seen = law .open-least r h; down = λ a b ha hb f s. law .flows-trans a b r ha hb h f s }
+
+pub secret : {k : Levels} {sc : Script} {S : Type 0} {schedule : Meaning S} → Lawful k → Levelled k sc → Obedient schedule → Secret k sc schedule
+secret {k} {sc} {schedule = schedule} law lev giver reader h = blind giver k sc (bounds law) lev (λ l. k .flows l reader) (reader-view k law reader h)

@@ -11,7 +11,8 @@ use Rattle.model.specs.Stretches.{assigns}
 use Rattle.model.specs.Values.{Cell, blank}
 use Rattle.model.specs.Threads.{Open, Thread, ended, guard-of, guard}
 use Rattle.model.specs.Threads.Open.{in-branch, in-loop, in-lock}
-use Rattle.model.proofs.Confidential.Slots.{cond-ind, T-true}
+use Rattle.model.proofs.Confidential.Slots.{cond-ind}
+use Rattle.model.proofs.Tests.{is-true}
 use Rattle.model.proofs.Confidential.View.{View, Had, Seen, seen-left, seen-right, join-had}
 use Rattle.model.proofs.Confidential.Agree.{HadCells}
 
@@ -94,7 +95,7 @@ module _ (v : View) where
   guard-of-over x {l} {p} {q} (in-branch l′ w p′ q′ n ∷ os) acc m y h a s =
       let out = guard-of-had x os acc (had-pop h) a in
       in-branch-out (λ a b c. T (assigned x b c) → Seen v (cond (assigned x p′ q′) (v .k .join (guard-of (v .k) x os acc) l′) (guard-of (v .k) x os acc)) → Seen v a) m
-      (λ t z. seen-right v out (h .at here) (subst (λ (b : Bool). Seen v (cond b (v .k .join (guard-of (v .k) x os acc) l′) (guard-of (v .k) x os acc))) (T-true _ t) z))
+      (λ t z. seen-right v out (h .at here) (subst (λ (b : Bool). Seen v (cond b (v .k .join (guard-of (v .k) x os acc) l′) (guard-of (v .k) x os acc))) (is-true _ t) z))
       (λ m′ t z. guard-of-over x os acc m′ t (had-pop h) a
       (cond-ind (λ (g : ℕ). Seen v g → Seen v (guard-of (v .k) x os acc)) (assigned x p′ q′) _ _ (λ _ z. seen-left v out (h .at here) z) (λ _ z. z) z))
       y s

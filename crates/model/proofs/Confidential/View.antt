@@ -1,37 +1,31 @@
--- One way of looking at a run: the levels that are seen. What is open is seen, and what flows to what is seen is seen.
+-- One way of looking at a run: the levels that are seen. The laws of the kind of levels enter the proof of secrecy in this file alone.
 use mathlib.Core.Path.{_≡_, refl, sym, ap, ap₂, _∙_, subst}
-use mathlib.Core.Bool.{Bool, true, false, _&&_}
+use mathlib.Core.Bool.{Bool, false}
 use mathlib.Core.Logic.{_⊎_, inl, inr, ⊎-elim}
 use mathlib.Core.List.{List, [], _∷_}
 use Prim.Native.Nat.{ℕ, zero, suc}
 use lib.Dec.{T, eqb→eq}
 use lib.ListN.{getD}
-use Rattle.lattice.specs.Levels.{Levels, Lawful}
+use Rattle.lattice.specs.Levels.{Levels}
 use Rattle.model.specs.Levels.{is-open, Levelled, all-had}
 use Rattle.script.specs.Code.{Script}
+use Rattle.model.specs.Secrecy.{Bounded, IsView}
 use Rattle.model.proofs.Confidential.Slots.{T-false, either-way}
+use Rattle.model.proofs.Tests.{and-left, and-right}
 
+-- What the proof of secrecy is given.
 pub record View : Type 0 where
   pub k : Levels
   pub sc : Script
   pub seen : ℕ → Bool
-  pub law : Lawful k
+  pub law : Bounded k
   pub levelled : Levelled k sc
-  pub open-seen : T (seen 0)
-  pub down : (a b : ℕ) → T (k .has a) → T (k .has b) → T (k .flows a b) → T (seen b) → T (seen a)
-
-had-first : (a b : Bool) → T (a && b) → T a
-had-first true b h = tt
-had-first false b h = h
-
-had-rest : (a b : Bool) → T (a && b) → T b
-had-rest true b h = h
-had-rest false b h = absurd h
+  pub view : IsView k seen
 
 had-at : (k : Levels) → T (k .has 0) → (ls : List ℕ) → T (all-had k ls) → (n : ℕ) → T (k .has (getD ls n 0))
 had-at k z [] h n = z
-had-at k z (l ∷ ls) h zero = had-first (k .has l) (all-had k ls) h
-had-at k z (l ∷ ls) h (suc n) = had-at k z ls (had-rest (k .has l) (all-had k ls) h) n
+had-at k z (l ∷ ls) h zero = and-left (k .has l) (all-had k ls) h
+had-at k z (l ∷ ls) h (suc n) = had-at k z ls (and-right (k .has l) (all-had k ls) h) n
 
 -- A level is one of the codes; it is seen; it is not seen.
 pub record Had (v : View) (l : ℕ) : Type 0 where
@@ -63,7 +57,7 @@ module _ (v : View) where
   join-had {a} {b} p q = record { is = v .law .join-has a b (p .is) (q .is) }
 
   pub seen-down : {a b : ℕ} → Had v a → Had v b → T (v .k .flows a b) → Seen v b → Seen v a
-  seen-down {a} {b} p q f s = record { is = v .down a b (p .is) (q .is) f (s .is) }
+  seen-down {a} {b} p q f s = record { is = v .view .down a b (p .is) (q .is) f (s .is) }
 
   pub seen-left : {a b : ℕ} → Had v a → Had v b → Seen v (v .k .join a b) → Seen v a
   seen-left {a} {b} p q s = seen-down p (join-had p q) (v .law .join-left a b (p .is) (q .is)) s
@@ -78,7 +72,7 @@ module _ (v : View) where
   hid-right p q h = record { is = λ s. h .is (seen-right p q s) }
 
   pub seen-open : (l : ℕ) → T (is-open l) → Seen v l
-  seen-open l t = subst (Seen v) (sym (eqb→eq l 0 t)) (record { is = v .open-seen })
+  seen-open l t = subst (Seen v) (sym (eqb→eq l 0 t)) (record { is = v .view .open-seen })
 
   pub hid-not-open : {l : ℕ} → Hid v l → is-open l ≡ false
   hid-not-open {l} h = T-false (is-open l) (λ t. h .is (seen-open l t))

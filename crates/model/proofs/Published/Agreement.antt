@@ -1,5 +1,5 @@
 -- The machine agrees with the automaton, command by command.
-use Prim.Native.Nat.{ℕ, zero, suc, pred, _+_, _<_, max}
+use Prim.Native.Nat.{ℕ, zero, suc, pred, _+_, _<_}
 use mathlib.Core.Path.{_≡_, refl, sym, ap, _∙_, subst}
 use mathlib.Core.Bool.{Bool, true, false, _&&_, _||_, not, cond}
 use mathlib.Core.List.{List, [], _∷_, map}
@@ -27,13 +27,14 @@ use Rattle.model.specs.Automaton.Input.{at-branch, at-merge, at-sync, at-assig
 use Rattle.model.specs.Automaton.Output.{ok, no, default}
 use Rattle.lattice.specs.Orders.{two-point}
 use Rattle.model.specs.Follows.{on-open, outermost, counted, assigning, all-reserved, word, pool, Same, others, entered, asked, Does, Ends, Puts, PutsTo, Begins, Tests, Loops, Syncs, Agrees, first, Follows}
-use Rattle.model.proofs.Unaltered.Tests.{by-test, is-true, and-left, and-right}
+use Rattle.model.proofs.Tests.{by-test, is-true, and-left, and-right, or-left, or-right}
 use Rattle.model.proofs.Published.Masks.{test, test-or, test-zero}
 use Rattle.model.proofs.Published.Opens.{open-join, flows-open, not-not, level-carries}
-use Rattle.model.proofs.Published.Locks.{or-left, or-right, reserved-found, reserved-more, reserved-less, without-again}
+use Rattle.model.proofs.Published.Locks.{reserved-found, reserved-more, reserved-less, without-again}
 use Rattle.model.proofs.Published.Sound.{Bound, Sound, Kept, clear, as-test, word-context, none-reserved, guard-assigning, assigning-set, assigning-at, set-get, set-put, within-locks, within-literal}
-use Rattle.model.proofs.Published.Reach.{more-than-none, raise-at, put-threads, put-cells, begun-inside, begun-none, reached-kept}
+use Rattle.model.proofs.Published.Reach.{more-than-none, raise-at, begun-inside, begun-none, reached-kept}
 use Rattle.model.proofs.Published.Moves.{same-refl, moved, still, untold, ways-define, ways-need, ways-go, literal-true, apart-or, against-others, reserved-mine, reserved-free}
+use Rattle.model.proofs.Puts.{put-cells, put-threads}
 
 less-one : (m n o c : ℕ) (b : Bool) → m + o ≡ n + c → o ≡ cond b (suc c) c → m ≡ cond b (pred n) n
 less-one m n o c true h f = let g : o ≡ suc c = f in let r : m ≡ pred n = omega arith in r
@@ -202,8 +203,8 @@ module _ (sc : Script) (s : State) (K : Kept (sc .variables) (s .cells) (s .thre
         next = asked sc s i;
         answer = ap (λ (b : Bool). cond b (cond (carries (asked sc s i) e) (some (default, asked sc s i)) (some (ok, asked sc s i))) (some (no, asked sc s i))) bottoms ∙ go (is-open (context os)) (carries (asked sc s i) e);
         moves = still sc s i (set-thread (do-put two-point sc s i h e os) i (at-code c os)) (at-code c os) (asked sc s i .w) here
-            (ap (λ (ts : List Thread). set ts i (at-code c os)) (put-threads sc s i h e os))
-            (λ x l. ap (λ (cs : List Cell). not (is-open (getD cs x blank .level))) (put-cells sc s i h e os))
+            (ap (λ (ts : List Thread). set ts i (at-code c os)) (put-threads two-point sc s i h e os))
+            (λ x l. ap (λ (cs : List Cell). not (is-open (getD cs x blank .level))) (put-cells two-point sc s i h e os))
             (λ x. ap (counted x) ins) (ap reserved ins) (ap word (sym ins));
       };
       enters = ap (λ (r : State). set-thread r i (at-code c os)) (put-is h e (is-open (context os)) (carries (asked sc s i) e) o refl refl);
@@ -218,7 +219,7 @@ module _ (sc : Script) (s : State) (K : Kept (sc .variables) (s .cells) (s .thre
     puts-to h e c true o = puts h e c (as-test (on-open sc h) o)
     puts-to h e c false o =
         untold sc s i (set-thread (do-put two-point sc s i h e os) i (at-code c os)) (at-code c os)
-        (ap (λ (ts : List Thread). set ts i (at-code c os)) (put-threads sc s i h e os)) (put-cells sc s i h e os)
+        (ap (λ (ts : List Thread). set ts i (at-code c os)) (put-threads two-point sc s i h e os)) (put-cells two-point sc s i h e os)
         (λ x. ap (counted x) ins) (ap reserved ins) (ap word (sym ins))
 
     -- Loop

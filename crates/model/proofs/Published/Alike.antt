@@ -15,7 +15,7 @@ use Rattle.model.specs.Automaton.Output.{ok, no, default}
 use Rattle.model.specs.Follows.{Same}
 use Rattle.model.specs.Together.{note, go-on, hears}
 use Rattle.model.proofs.Published.Names.{reads}
-use Rattle.model.proofs.Unaltered.Tests.{and-left, and-right}
+use Rattle.model.proofs.Tests.{and-left, and-right}
 use Rattle.model.proofs.Published.Sound.{clear}
 
 abbrev pub fit : ℕ → Input → Bool

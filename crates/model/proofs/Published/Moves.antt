@@ -20,9 +20,9 @@ use Rattle.model.specs.Machine.{State, value-of}
 use Rattle.model.specs.Automaton.{Q, Pool, apart, stops, either-defines, either-needs, with-w, update}
 use Rattle.lattice.specs.Orders.{two-point}
 use Rattle.model.specs.Follows.{counted, assigning, all-reserved, word, pool, Same, owned-by, others, asked}
-use Rattle.model.proofs.Unaltered.Tests.{by-test, is-true, and-left, and-right}
+use Rattle.model.proofs.Tests.{by-test, is-true, and-left, and-right, or-left, or-right}
 use Rattle.model.proofs.Published.Masks.{test, test-or, test-and, test-xor, mask-ext, differs, apart-bits, bits-apart}
-use Rattle.model.proofs.Published.Locks.{holds, or-left, or-right, of-others, against-split, owned-found, owned-shown, others-found, others-shown, reserved-still}
+use Rattle.model.proofs.Published.Locks.{holds, of-others, against-split, owned-found, owned-shown, others-found, others-shown, reserved-still}
 use Rattle.model.proofs.Published.Sound.{Kept, clear, as-false, assigning-still, set-put, set-either, or-in-left, or-in-right}
 
 pub same-refl : (n : ℕ) (p : Pool) → Same n p p
@@ -132,7 +132,7 @@ apart-or m a b = by-test (apart m a)
     (λ ha. as-false (apart m (bitOr a b)) (λ h. clear (apart m a) (bits-apart m a (λ n x y. apart-bits m (bitOr a b) n h x (or-in-left n a b y))) ha) ∙ sym (rw ha))
   where
     both : (n : ℕ) → T (test n m) → T (test n a || test n b) → T (apart m a) → T (apart m b) → ⊥
-    both n x y ha hb = Rattle.model.proofs.Unaltered.Tests.or-cases (test n a) (test n b) (λ u. apart-bits m a n ha x u) (λ u. apart-bits m b n hb x u) y
+    both n x y ha hb = Rattle.model.proofs.Tests.or-cases (test n a) (test n b) (λ u. apart-bits m a n ha x u) (λ u. apart-bits m b n hb x u) y
 
 -- What a thread holds no other thread holds.
 module _ {n : ℕ} {cs : List Cell} {ts : List Thread} (K : Kept n cs ts) (i : ℕ) where

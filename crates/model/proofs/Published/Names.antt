@@ -11,7 +11,7 @@ use Rattle.codec.specs.Sound.{declared as names-declared}
 use Rattle.script.specs.Code.{Code}
 use Rattle.script.specs.Code.Code.{done, skip, assign, put, branch, loop, lock}
 use Rattle.script.specs.Trees.{Valid}
-use Rattle.model.proofs.Unaltered.Tests.{is-true, and-left, and-right}
+use Rattle.model.proofs.Tests.{both, and-left, and-right}
 
 -- Every expression reads declared variables, of which there are n.
 abbrev pub reads : ℕ → Expr → Bool
@@ -35,9 +35,6 @@ declared n (lock m e b c) = reads n e && (declared n b && declared n c)
 abbrev pub all-declared : ℕ → List Code → Bool
 all-declared n [] = true
 all-declared n (c ∷ cs) = declared n c && all-declared n cs
-
-both : (a b : Bool) → T a → T b → T (a && b)
-both a b h g = rw (is-true a h) g
 
 -- An expression of declared variables and tracks reads declared variables.
 sound-reads : (h : Head) (e : Expr) → T (names-declared h e) → T (reads (h .variables) e)

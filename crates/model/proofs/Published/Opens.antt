@@ -2,9 +2,9 @@
 use Prim.Native.Nat.{ℕ, zero, suc, pred, _+_, max}
 use mathlib.Core.Path.{_≡_, refl, sym, ap, _∙_}
 use mathlib.Core.Bool.{Bool, true, false, _&&_, _||_, not}
-use mathlib.Core.List.{List, [], _∷_}
+use mathlib.Core.List.{[], _∷_}
 use native.Mathlib.Omega.{arith}
-use lib.Dec.{T, eqb, leb, eqb·suc-zero, leb·suc-zero}
+use lib.Dec.{eqb, leb, eqb·suc-zero, leb·suc-zero}
 use lib.ListN.{getD}
 use Rattle.model.specs.Levels.{is-open}
 use Rattle.codec.specs.Expressions.{Expr}
@@ -16,7 +16,6 @@ use Rattle.model.specs.Automaton.{meets, carries, extract}
 use Rattle.lattice.specs.Orders.{two-point}
 use Rattle.model.specs.Follows.{pool}
 use Rattle.model.proofs.Published.Two.{join-max}
-use Rattle.model.proofs.Unaltered.Tests.{and-left, and-right}
 
 -- A join is open exactly if both parts are.
 pub open-join : (a b : ℕ) → is-open (two-point .join a b) ≡ is-open a && is-open b

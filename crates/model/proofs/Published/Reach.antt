@@ -1,11 +1,11 @@
 -- Every state that a run reaches keeps what Sound says.
-use Prim.Native.Nat.{ℕ, zero, suc, _+_, _≤_, _<_, max}
+use Prim.Native.Nat.{ℕ, zero, suc, _+_, _≤_, _<_}
 use mathlib.Core.Path.{_≡_, refl, sym, ap, _∙_, subst}
 use mathlib.Core.Bool.{Bool, true, false, _&&_, _||_, not, cond}
 use mathlib.Core.List.{List, [], _∷_, map}
 use mathlib.Core.Logic.{inl, inr}
 use native.Mathlib.Omega.{arith}
-use lib.Dec.{T, eqb, eqb→eq, eqb·suc-zero, leb}
+use lib.Dec.{T, eqb, eqb→eq, eqb·suc-zero}
 use lib.ListN.{getD, set, length, length-set, length-replicate}
 use lib.Bits.{bitOr}
 use Rattle.model.specs.Levels.{is-open}
@@ -15,7 +15,7 @@ use Rattle.model.specs.Stretches.{assigns, needs, fixed-time}
 use Rattle.script.specs.Code.Code.{done, skip, assign, put, branch, loop, lock}
 use Rattle.model.specs.Values.{Cell, blank, is-zero}
 use Rattle.model.specs.Threads.{Open, Pace, Thread, ended, context, owned, reserved, against, clash, guard, at-code, at-idle}
-use Rattle.model.specs.Machine.{Channel, State, level-of, value-of, choose-status, status-at, is-ready, raise, lag, close-branch, set-channel, do-put, step-at}
+use Rattle.model.specs.Machine.{State, level-of, value-of, choose-status, status-at, is-ready, raise, lag, close-branch, step-at}
 use Rattle.model.specs.Threads.Open.{in-branch, in-loop, in-lock}
 use Rattle.model.specs.Threads.Pace.{running, idling}
 use Rattle.model.specs.Calls.{begin}
@@ -23,11 +23,12 @@ use Rattle.model.specs.Automaton.{apart}
 use Rattle.lattice.specs.Orders.{two-point}
 use Rattle.model.specs.Follows.{outermost, counted, assigning, Reached}
 use Rattle.model.specs.Follows.Reached.{start, turn, rest, fed}
-use Rattle.model.proofs.Unaltered.Tests.{by-test, is-true, and-left, and-right, and-false, or-cases, set-all}
+use Rattle.model.proofs.Tests.{by-test, is-true, and-left, and-right, and-false, or-cases, set-all, or-left, or-right}
 use Rattle.model.proofs.Published.Masks.{test, test-or, test-zero, apart-bits}
 use Rattle.model.proofs.Published.Opens.{open-join, not-not}
-use Rattle.model.proofs.Published.Locks.{holds, or-left, or-right, against-shown}
+use Rattle.model.proofs.Published.Locks.{holds, against-shown}
 use Rattle.model.proofs.Published.Sound.{Bound, Sound, Good, Kept, clear, guard-assigning, assigning-still, assigning-fewer, set-get, set-either, within-done, within-assign, within-next, within-body, within-after, within-locks, or-in-right}
+use Rattle.model.proofs.Puts.{put-cells, put-threads}
 
 and-true : (b : Bool) → b && true ≡ b
 and-true true = refl
@@ -111,22 +112,6 @@ ready-parts false false h = (refl, refl)
 cond-less : (b : Bool) (n : ℕ) → n ≤ cond b (suc n) n
 cond-less true n = omega arith
 cond-less false n = omega arith
-
-pub put-cells : (sc : Script) (s : State) (i h : ℕ) (e : Expr) (os : List Open) → do-put two-point sc s i h e os .cells ≡ s .cells
-unfolding do-put
-put-cells sc s i h e os = go (leb (context os) (getD (sc .channel-levels) h 0)) _
-  where
-    go : (b : Bool) (ch : Channel) → cond b (set-channel s h ch) s .cells ≡ s .cells
-    go true ch = refl
-    go false ch = refl
-
-pub put-threads : (sc : Script) (s : State) (i h : ℕ) (e : Expr) (os : List Open) → do-put two-point sc s i h e os .threads ≡ s .threads
-unfolding do-put
-put-threads sc s i h e os = go (leb (context os) (getD (sc .channel-levels) h 0)) _
-  where
-    go : (b : Bool) (ch : Channel) → cond b (set-channel s h ch) s .threads ≡ s .threads
-    go true ch = refl
-    go false ch = refl
 
 -- A way of a branch, just entered.
 in-fact : (c : ℕ) (po lo a : Bool) → lo ≡ false → T a → (po ≡ false → eqb c 0 ≡ false) → eqb (cond ((po && not lo) && a) (suc c) c) 0 ≡ false
@@ -236,7 +221,7 @@ module _ (sc : Script) (s : State) (K : Kept (sc .variables) (s .cells) (s .thre
               ∙ and-false (is-open (level-of two-point sc s e))
           go false h = K .raised y l before
   step-kept (put h e c) running os ins so bo r =
-      rw (put-cells sc s i h e os, put-threads sc s i h e os) (kept-less K i (at-code c os) (so, bo) os ins (λ k a. a) (λ x. omega arith))
+      rw (put-cells two-point sc s i h e os, put-threads two-point sc s i h e os) (kept-less K i (at-code c os) (so, bo) os ins (λ k a. a) (λ x. omega arith))
   step-kept (branch e p q c) running os ins so bo r =
       let way = not (is-zero (value-of two-point sc s e)) in
       let l = two-point .join (context os) (level-of two-point sc s e) in

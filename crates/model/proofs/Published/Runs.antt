@@ -1,14 +1,12 @@
 -- Calls lead to no other states than turns, rests and feeds do.
-use Prim.Native.Nat.{ℕ, zero, suc, _+_}
-use mathlib.Core.Path.{_≡_, refl, sym, subst}
+use Prim.Native.Nat.{ℕ, zero, suc}
+use mathlib.Core.Path.{_≡_, refl}
 use mathlib.Core.Bool.{Bool, true, false, _||_, cond}
 use mathlib.Core.List.{List, [], _∷_}
 use mathlib.Core.Option.{Option, none, some}
-use native.Mathlib.Omega.{arith}
-use lib.Dec.{T, eqb, ltb}
+use lib.Dec.{eqb, ltb}
 use lib.ListN.{getD, length}
-use Rattle.model.specs.Threads.{Thread}
-use Rattle.model.specs.Machine.{State, status, is-ready, each-from, ready-set, all-finished, take-turn, advance, rules, most-turns}
+use Rattle.model.specs.Machine.{State, ready-set, all-finished, take-turn, advance, rules, most-turns}
 use Rattle.model.specs.Schedulers.{Meaning, Obedient}
 use Rattle.script.specs.Code.{Script}
 use Rattle.model.specs.Calls.{Call, Answer, begin, perform, after}
@@ -17,11 +15,7 @@ use Rattle.lattice.specs.Orders.{two-point}
 use Rattle.model.specs.Follows.{Reached}
 use Rattle.model.specs.Follows.Reached.{start, turn, rest, fed}
 use Rattle.model.specs.Runs.{Calls-reach}
-
-ready-at : (f : ℕ → Bool) (k : ℕ) (ts : List Thread) (i : ℕ) → T (getD (each-from f k ts) i false) → T (f (k + i))
-ready-at f k [] i h = absurd h
-ready-at f k (t ∷ ts) zero h = let e : k + 0 ≡ k = omega arith in subst (λ (n : ℕ). T (f n)) (sym e) h
-ready-at f k (t ∷ ts) (suc i) h = let e : suc k + i ≡ k + suc i = omega arith in subst (λ (n : ℕ). T (f n)) e (ready-at f (suc k) ts i h)
+use Rattle.model.proofs.Ready.{ready-at}
 
 module _ (sc : Script) {G : Type 0} (schedule : Meaning G) (law : Obedient schedule) where
   turned : (s : State) (g : G) → Reached sc s → Reached sc (take-turn (rules two-point sc) s (schedule g (ready-set (rules two-point sc) s) .0))
@@ -30,9 +24,7 @@ module _ (sc : Script) {G : Type 0} (schedule : Meaning G) (law : Obedient sched
       go : (o : Option ℕ) → schedule g (ready-set (rules two-point sc) s) .0 ≡ o → Reached sc (take-turn (rules two-point sc) s o)
       go none e = rest r
       go (some i) e =
-          let now = ready-at (λ n. is-ready (status two-point sc s n)) 0 (s .threads) i (law .picks-ready g (ready-set (rules two-point sc) s) i e) in
-          let z : 0 + i ≡ i = omega arith in
-          turn i r (subst (λ (n : ℕ). T (is-ready (status two-point sc s n))) z now)
+          turn i r (ready-at two-point sc s i (law .picks-ready g (ready-set (rules two-point sc) s) i e))
 
   either : {A : Type 0} (P : A → Type 0) (b : Bool) (x y : A) → P x → P y → P (cond b x y)
   either P true x y p q = p

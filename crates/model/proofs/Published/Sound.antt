@@ -1,5 +1,5 @@
 -- What holds of every state that a run reaches: of each thread's blocks and code, of locks, and of the variables that closed branches assign.
-use Prim.Native.Nat.{ℕ, zero, suc, _+_, _≤_, _<_, max}
+use Prim.Native.Nat.{ℕ, zero, suc, _+_, _≤_, _<_}
 use mathlib.Core.Path.{_≡_, refl, sym, ap, _∙_}
 use mathlib.Core.Bool.{Bool, true, false, _&&_, _||_, not, cond}
 use mathlib.Core.List.{List, [], _∷_}
@@ -19,10 +19,10 @@ use Rattle.model.specs.Threads.Open.{in-branch, in-loop, in-lock}
 use Rattle.model.specs.Automaton.{all-bottom}
 use Rattle.lattice.specs.Orders.{two-point}
 use Rattle.model.specs.Follows.{outermost, counted, assigning, word}
-use Rattle.model.proofs.Unaltered.Tests.{is-true, and-left, and-right, and-false}
+use Rattle.model.proofs.Tests.{is-true, and-left, and-right, and-false, or-left, or-right}
 use Rattle.model.proofs.Published.Masks.{test, test-or, test-zero}
 use Rattle.model.proofs.Published.Opens.{open-join, nought-sum}
-use Rattle.model.proofs.Published.Locks.{holds, or-left, or-right}
+use Rattle.model.proofs.Published.Locks.{holds}
 
 -- A stretch inside a closed branch: what it assigns and needs is the outermost closed branch's, and it is even.
 abbrev pub Within : Code → List Open → Type 0

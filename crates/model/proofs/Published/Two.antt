@@ -1,12 +1,11 @@
 -- The two levels are a lawful kind.
 use Prim.Native.Nat.{ℕ, max}
 use native.Mathlib.Omega.{arith}
-use mathlib.Core.Path.{_≡_, refl, sym, subst}
-use mathlib.Core.Bool.{Bool, true, false, cond}
-use lib.Dec.{T, leb, ltb, ltb→lt, lt→ltb, leb→le, le→leb, nleb→lt}
+use mathlib.Core.Path.{_≡_}
+use lib.Dec.{leb, ltb, ltb→lt, lt→ltb, leb→le, le→leb, nleb→lt}
 use Rattle.lattice.specs.Levels.{Lawful}
 use Rattle.lattice.specs.Orders.{two-point}
-use Rattle.model.proofs.Unaltered.Tests.{by-test, is-true}
+use Rattle.model.proofs.Tests.{by-test, is-true}
 
 -- The join is the greater of the two.
 pub join-max : (a b : ℕ) → two-point .join a b ≡ max a b

@@ -17,7 +17,7 @@ use Rattle.model.specs.Machine.{State, Status, value-of, level-of, choose-stat
 use Rattle.model.specs.Values.{is-zero}
 use Rattle.model.specs.Threads.Open.{in-branch, in-loop, in-lock}
 use Rattle.model.specs.Threads.Pace.{running, idling}
-use Rattle.model.specs.Machine.Status.{ready, finished, waiting, barred}
+use Rattle.model.specs.Machine.Status.{waiting, barred}
 use Rattle.model.specs.Automaton.{Q, Pool, Input, Output, apart, all-bottom, and-then, carries, react, extract, update}
 use Rattle.model.specs.Automaton.Input.{at-branch, at-merge, at-sync, at-skip, at-assign, at-output}
 use Rattle.model.specs.Automaton.Output.{ok, no, default}
@@ -25,14 +25,16 @@ use Rattle.lattice.specs.Orders.{two-point}
 use Rattle.model.specs.Follows.{on-open, pool, first, Same, others, Reached, asked, Does, Untold, Ends, PutsTo, Begins, Tests, Loops, Agrees}
 use Rattle.model.specs.Together.{ending, putting, testing, told, permits, go-on, hears, is-some, departs, never-syncs, EntersTo, Enters, Verdict, Together, Gives-its-verdicts}
 use Rattle.model.specs.Together.Together.{start, turn, rest, fed}
-use Rattle.model.proofs.Unaltered.Tests.{by-test, is-true, and-left, and-right, set-all}
+use Rattle.model.proofs.Tests.{by-test, is-true, and-left, and-right, set-all, both}
 use Rattle.script.specs.Trees.{head-of}
 use Rattle.model.proofs.Published.Names.{reads, declared, all-declared, all-valid-declared}
 use Rattle.model.proofs.Published.Opens.{not-not, level-carries}
 use Rattle.model.proofs.Published.Sound.{Kept, clear, as-false}
-use Rattle.model.proofs.Published.Reach.{put-threads, reached-kept, step-kept}
+use Rattle.model.proofs.Published.Reach.{reached-kept, step-kept}
 use Rattle.model.proofs.Published.Agreement.{agrees-at, begins-same}
 use Rattle.model.proofs.Published.Alike.{all-fit, same-trans, Like, Both, Both-heard, carries-alike, react-alike, extract-alike, hears-alike}
+use Rattle.model.proofs.Puts.{put-threads}
+use Rattle.model.proofs.Ready.{ready-is}
 
 -- Declared variables, through a run
 
@@ -47,10 +49,6 @@ Names n t = T (declared n (t .code)) × T (named n (t .inside))
 
 pair : (a b : Bool) → T (a && b) → T a × T b
 pair a b h = (and-left a b h, and-right a b h)
-
-join : (a b : Bool) → T a → T b → T (a && b)
-join true b p q = q
-join false b p q = p
 
 fit-one : (a : Bool) → T a → T (a && true)
 fit-one true h = tt
@@ -105,11 +103,11 @@ module _ (sc : Script) (s : State) (i : ℕ) where
     step-names done running (in-lock m next ∷ os) h g = put-in (at-code next os) (pair (declared n next) (named n os) g)
     step-names (skip c) running os h g = put-in (at-code c os) (h, g)
     step-names (assign x e c) running os h g = put-in (at-code c os) (and-right (reads n e) (declared n c) h, g)
-    step-names (put x e c) running os h g = subst (λ (ts : List Thread). (j : ℕ) → Names n (getD (set ts i (at-code c os)) j ended)) (sym (put-threads sc s i x e os)) (put-in (at-code c os) (and-right (reads n e) (declared n c) h, g))
+    step-names (put x e c) running os h g = subst (λ (ts : List Thread). (j : ℕ) → Names n (getD (set ts i (at-code c os)) j ended)) (sym (put-threads two-point sc s i x e os)) (put-in (at-code c os) (and-right (reads n e) (declared n c) h, g))
     step-names (branch e p q c) running os h g =
         let ep = and-left (reads n e && declared n p) (declared n q && declared n c) h in
         let qc = and-right (reads n e && declared n p) (declared n q && declared n c) h in
-        put-in _ (way (not (is-zero (value-of two-point sc s e))) (and-right (reads n e) (declared n p) ep) (and-left (declared n q) (declared n c) qc), join (declared n c) (named n os) (and-right (declared n q) (declared n c) qc) g)
+        put-in _ (way (not (is-zero (value-of two-point sc s e))) (and-right (reads n e) (declared n p) ep) (and-left (declared n q) (declared n c) qc), both (declared n c) (named n os) (and-right (declared n q) (declared n c) qc) g)
       where
         way : (w : Bool) → T (declared n p) → T (declared n q) → T (declared n (cond w p q))
         way true a b = a
@@ -118,10 +116,10 @@ module _ (sc : Script) (s : State) (i : ℕ) where
       where
         go : (z : Bool) → Names n (cond z (at-code c os) (at-code b (in-loop e b c ∷ os)))
         go true = (and-right (declared n b) (declared n c) (and-right (reads n e) (declared n b && declared n c) h), g)
-        go false = (and-left (declared n b) (declared n c) (and-right (reads n e) (declared n b && declared n c) h), join (declared n (loop e b c)) (named n os) h g)
+        go false = (and-left (declared n b) (declared n c) (and-right (reads n e) (declared n b && declared n c) h), both (declared n (loop e b c)) (named n os) h g)
     step-names (lock m e b c) running os h g =
         let bc = and-right (reads n e) (declared n b && declared n c) h in
-        put-in (at-code b (in-lock m c ∷ os)) (and-left (declared n b) (declared n c) bc, join (declared n c) (named n os) (and-right (declared n b) (declared n c) bc) g)
+        put-in (at-code b (in-lock m c ∷ os)) (and-left (declared n b) (declared n c) bc, both (declared n c) (named n os) (and-right (declared n b) (declared n c) bc) g)
 
 begun-names : (n : ℕ) (cs : List Code) → T (all-declared n cs) → (j : ℕ) → Names n (getD (map (λ (c : Code). at-code c []) cs) j ended)
 begun-names n [] h j = (tt, tt)
@@ -129,12 +127,6 @@ begun-names n (c ∷ cs) h zero = (and-left (declared n c) (all-declared n cs) h
 begun-names n (c ∷ cs) h (suc j) = begun-names n cs (and-right (declared n c) (all-declared n cs) h) j
 
 -- What the automaton answers in the state that is read off the machine's
-
-ready-is : (t : Status) → T (is-ready t) → t ≡ ready
-ready-is ready h = refl
-ready-is finished h = absurd h
-ready-is waiting h = absurd h
-ready-is barred h = absurd h
 
 not-ready : {P : Type 0} (t u : Status) → t ≡ u → is-ready u ≡ false → T (is-ready t) → P
 not-ready t u e f h = clear (is-ready t) h (ap is-ready e ∙ f)

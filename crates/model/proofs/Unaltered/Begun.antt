@@ -13,7 +13,7 @@ use Rattle.model.specs.Machine.{unused}
 use Rattle.model.specs.Calls.{begin}
 use Rattle.model.specs.Levels.{Levelled, opened}
 use Rattle.model.specs.Inspection.{types, all-type, Passes}
-use Rattle.model.proofs.Unaltered.Tests.{and-left, and-right}
+use Rattle.model.proofs.Tests.{and-left, and-right}
 use Rattle.model.proofs.Unaltered.Under.{under-open, had-at}
 use Rattle.model.proofs.Unaltered.Erased.{erase, erase-cell, erase-thread}
 use Rattle.model.proofs.Unaltered.Typed.{World, Threads, Kept}

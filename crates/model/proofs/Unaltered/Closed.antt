@@ -1,7 +1,7 @@
 -- A stretch that types at a level that is not open is even and names no lock; a stretch that assigns a variable types at a level under the variable's.
 use Prim.Native.Nat.{ℕ, zero, suc}
 use mathlib.Core.Path.{_≡_, refl, sym, ap, subst, _∙_}
-use mathlib.Core.Bool.{Bool, true, false, _&&_, _||_, not, cond, false≢true}
+use mathlib.Core.Bool.{Bool, true, false, _&&_, _||_, cond, false≢true}
 use mathlib.Core.List.{List, [], _∷_, map}
 use lib.Dec.{T, eqb, eqb→eq}
 use lib.ListN.{getD}
@@ -14,7 +14,7 @@ use Rattle.script.specs.Code.Code.{done, skip, assign, put, branch, loop, lock}
 use Rattle.model.specs.Threads.{Open, Thread, reserved, held-by, against, guard-of, guard}
 use Rattle.model.specs.Threads.Open.{in-branch, in-loop, in-lock}
 use Rattle.model.specs.Inspection.{types, type-of}
-use Rattle.model.proofs.Unaltered.Tests.{and-false, or-cases, by-test, is-true, both}
+use Rattle.model.proofs.Tests.{and-false, or-cases, by-test, is-true, both}
 use Rattle.model.proofs.Unaltered.Under.{Under, under-zero, under-trans, under-left, under-least}
 use Rattle.model.proofs.Unaltered.Erased.{erase-thread, owned-erased, reserved-erased}
 use Rattle.model.proofs.Unaltered.Typed.{World, Stack, Threads, type-had, assign-parts, put-parts, branch-parts, loop-parts, lock-parts}

@@ -17,7 +17,7 @@ use Rattle.model.specs.Threads.{Open, Thread, ended, context, owned, reserved,
 use Rattle.model.specs.Machine.{State, raise, value-of, level-of, set-thread, set-cell, close-branch}
 use Rattle.model.specs.Threads.Open.{in-branch, in-loop, in-lock}
 use Rattle.model.specs.Levels.{opened}
-use Rattle.model.proofs.Unaltered.Tests.{and-false, getD-zeros}
+use Rattle.model.proofs.Tests.{and-false, getD-zeros}
 use Rattle.model.proofs.Unaltered.Under.{open-join, joined-open}
 
 abbrev pub erase-cell : Cell → Cell

@@ -17,7 +17,7 @@ use Rattle.model.specs.Machine.{State, Channel, level-of, value-of, raise, lag
 use Rattle.model.specs.Threads.Open.{in-branch, in-loop, in-lock}
 use Rattle.model.specs.Threads.Pace.{running, idling}
 use Rattle.model.specs.Inspection.{types, type-of}
-use Rattle.model.proofs.Unaltered.Tests.{set-all, or-cases}
+use Rattle.model.proofs.Tests.{set-all, or-cases}
 use Rattle.model.proofs.Unaltered.Under.{Under, under-trans, under-least, under-open}
 use Rattle.model.proofs.Unaltered.Typed.{World, Stack, Typed, Kept, threads-at, threads-set, level-under, assign-parts, put-parts, branch-parts, loop-parts, lock-parts}
 use Rattle.model.proofs.Unaltered.Closed.{open-zero, assigns-under, guard-under}

@@ -16,7 +16,7 @@ use Rattle.model.specs.Machine.{State, level-of, status-at, status, each-from,
 use Rattle.model.specs.Threads.Pace.{running, idling}
 use Rattle.model.specs.Machine.Status.{ready}
 use Rattle.model.specs.Inspection.{types, type-of}
-use Rattle.model.proofs.Unaltered.Tests.{and-false, by-test, is-true}
+use Rattle.model.proofs.Tests.{and-false, by-test, is-true}
 use Rattle.model.proofs.Unaltered.Under.{Under, under-zero, under-join, open-join}
 use Rattle.model.proofs.Unaltered.Erased.{erase, erase-open, erase-thread, context-erased, thread-erased, level-erased, value-erased}
 use Rattle.model.proofs.Unaltered.Typed.{World, Stack, Typed, Kept, threads-at, context-under, level-under, branch-parts, loop-parts, lock-parts}

@@ -18,7 +18,7 @@ use Rattle.model.specs.Threads.Open.{in-branch, in-loop, in-lock}
 use Rattle.model.specs.Threads.Pace.{running, idling}
 use Rattle.model.specs.Inspection.{types}
 use Rattle.model.specs.Levels.{opened}
-use Rattle.model.proofs.Unaltered.Tests.{is-true, getD-zeros}
+use Rattle.model.proofs.Tests.{is-true, getD-zeros}
 use Rattle.model.proofs.Unaltered.Under.{under-trans, open-join}
 use Rattle.model.proofs.Unaltered.Erased.{erase, erase-cell, erase-open, erase-thread, context-erased, thread-erased, level-erased, value-erased, guard-erased, raise-erased, close-erased, set-thread-erased, set-cell-erased, cond-erased}
 use Rattle.model.proofs.Unaltered.Typed.{World, Stack, Typed, Kept, threads-at, context-under, level-under, put-parts}

@@ -1,7 +1,6 @@
 -- What typing keeps true of a state: each cell's level is under its type, and each thread's blocks and code are typed.
 use Prim.Native.Nat.{ℕ, zero, suc}
 use mathlib.Core.Path.{_≡_, refl}
-use mathlib.Core.Bool.{true}
 use mathlib.Core.List.{List, [], _∷_}
 use lib.Dec.{T}
 use lib.ListN.{getD, set}
@@ -15,7 +14,7 @@ use Rattle.model.specs.Threads.{Open, Thread, ended, context}
 use Rattle.model.specs.Machine.{State, level-of}
 use Rattle.model.specs.Threads.Open.{in-branch, in-loop, in-lock}
 use Rattle.model.specs.Inspection.{types, type-of}
-use Rattle.model.proofs.Unaltered.Tests.{and-3, and-4}
+use Rattle.model.proofs.Tests.{and-3, and-4}
 use Rattle.model.proofs.Unaltered.Under.{Under, under-refl, joined-under}
 
 -- A lawful kind, with codes of its own for every variable, track and channel.

@@ -9,7 +9,7 @@ use Rattle.codec.specs.Expressions.{Expr}
 use Rattle.codec.specs.Expressions.Op.{constant, variable, sample, held, binary, unary}
 use Rattle.model.specs.Values.{joined}
 use Rattle.model.specs.Levels.{all-had}
-use Rattle.model.proofs.Unaltered.Tests.{and-left, and-right}
+use Rattle.model.proofs.Tests.{and-left, and-right}
 
 pub record Under (k : Levels) (a b : ℕ) : Type 0 where
   pub low : T (k .has a)
@@ -38,7 +38,7 @@ module _ {k : Levels} (L : Lawful k) where
   pub under-join : {a b c d : ℕ} → Under k a c → Under k b d → Under k (k .join a b) (k .join c d)
   under-join p q = under-least (under-trans p (under-left (p .high) (q .high))) (under-trans q (under-right (p .high) (q .high)))
 
-  -- What is under the open level is open.
+  -- What is under the open level is open. Here, and nowhere else, antisymmetry is used: a level counts as open if it is the code 0.
   pub under-zero : {a : ℕ} → Under k a 0 → a ≡ 0
   under-zero {a} p = L .flows-antisym a 0 (p .low) (p .high) (p .flow) (L .open-least a (p .low))
 

@@ -1,21 +1,20 @@
 -- A script's frames have one tree.
-use Prim.Native.Nat.{ℕ, zero, suc, _+_}
-use native.Mathlib.Omega.{arith}
-use mathlib.Core.Path.{_≡_, refl, sym, _∙_, ap, subst}
+use Prim.Native.Nat.{ℕ, _+_}
+use mathlib.Core.Path.{_≡_, refl, sym, _∙_, ap}
 use mathlib.Core.List.{List, [], _∷_}
 use mathlib.Core.Bool.{Bool, true, false}
 use lib.Dec.{T}
-use lib.ListN.{length, drop}
-use Rattle.script.specs.Code.{Code, Script}
-use Rattle.script.specs.Code.Code.{done, skip, assign, put, branch, loop, lock}
+use lib.ListN.{drop}
+use Rattle.script.specs.Code.{Code}
+use Rattle.script.specs.Code.Code.{done}
 use Rattle.model.specs.Threads.{Open}
 use Rattle.model.specs.Threads.Open.{in-branch, in-loop, in-lock}
-use Rattle.codec.specs.Frames.{Head, Frame}
+use Rattle.codec.specs.Frames.{Frame}
 use Rattle.codec.specs.Frames.Frame.{header, track, channel, thread, thread-end, if, else, end-if, while, end-while, with, end-with, last}
-use Rattle.script.specs.Trees.{flatten, thread-frames, store-frames, head-of, body-frames, script-frames}
+use Rattle.script.specs.Trees.{flatten}
 use Rattle.model.specs.Places.{flatten-inside, Spot, Stands}
-use Rattle.model.proofs.Reading.Skipping.{size, drop-flatten}
-use Rattle.script.specs.Grown.{Ending, Grown, no-code, no-script, now-ends, later-ends, with-code, grow, grown, script-of}
+use Rattle.model.proofs.Places.Skipping.{size, drop-flatten}
+use Rattle.script.specs.Grown.{Grown, grown}
 use Rattle.script.proofs.Unique.{then, then-done, grown-flatten}
 
 -- A stretch before a closing frame

@@ -1,13 +1,12 @@
 -- A thread of a valid script stays valid: at most 16 blocks are open around it, and it names only what is declared.
-use Prim.Native.Nat.{ℕ, zero, suc, _+_, _≤_, _<_}
+use Prim.Native.Nat.{ℕ, zero, suc, _≤_, _<_}
 use native.Mathlib.Omega.{arith}
-use mathlib.Core.Path.{_≡_, refl, sym, _∙_, ap, subst}
+use mathlib.Core.Path.{_≡_, refl, sym, ap, subst}
 use mathlib.Core.Bool.{Bool, true, false, not, cond}
 use mathlib.Core.List.{List, [], _∷_}
-use lib.Dec.{T, ltb, ltb→lt}
+use lib.Dec.{ltb, ltb→lt}
 use lib.ListN.{length, getD, set, List·getD-map}
 use lib.Seq.{getD-set-same}
-use Rattle.std.specs.shelf.Lists.{All}
 use Rattle.std.proofs.shelf.Elements.{all-getD}
 use Rattle.lattice.specs.Levels.{Levels}
 use Rattle.codec.specs.Expressions.{Expr}
@@ -22,7 +21,7 @@ use Rattle.model.specs.Calls.{begin}
 use Rattle.codec.specs.Frames.{Head}
 use Rattle.script.specs.Trees.{Valid, ValidScript, head-of}
 use Rattle.model.specs.Places.{ValidInside, ValidThread}
-use Rattle.model.proofs.Reading.Standing.{put-threads}
+use Rattle.model.proofs.Puts.{put-threads}
 
 -- At most 16 blocks are open.
 pub depth : (h : Head) (os : List Open) → ValidInside h os → length os ≤ 16

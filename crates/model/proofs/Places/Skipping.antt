@@ -1,14 +1,13 @@
 -- Skipping over blocks of frames, and the place behind a frame.
 use Prim.Native.Nat.{ℕ, zero, suc, _+_, _<_}
 use native.Mathlib.Omega.{arith}
-use mathlib.Core.Path.{_≡_, refl, sym, _∙_, ap, subst}
+use mathlib.Core.Path.{_≡_, sym, _∙_, ap}
 use mathlib.Core.List.{List, [], _∷_}
 use lib.ListN.{length, drop, getD}
-use lib.Seq.{drop-drop}
 use Rattle.script.specs.Code.{Code}
 use Rattle.script.specs.Code.Code.{done, skip, assign, put, branch, loop, lock}
 use Rattle.codec.specs.Frames.{Frame}
-use Rattle.codec.specs.Frames.Frame.{thread-end, if, else, end-if, while, end-while, with, end-with, last}
+use Rattle.codec.specs.Frames.Frame.{else, end-if, end-while, end-with}
 use Rattle.script.specs.Trees.{flatten}
 use Rattle.model.specs.Places.{skip-inside, skip-block, past}
 

@@ -9,10 +9,10 @@ use Rattle.script.specs.Code.Code.{done, skip, assign, put, branch, loop, lock}
 use Rattle.model.specs.Threads.{at-code}
 use Rattle.model.specs.Calls.{begin}
 use Rattle.codec.specs.Frames.{Frame}
-use Rattle.codec.specs.Frames.Frame.{header, track, channel, thread, thread-end, if, else, end-if, while, end-while, with, end-with, last}
+use Rattle.codec.specs.Frames.Frame.{track, channel, thread-end, else, end-if, end-while, end-with}
 use Rattle.script.specs.Trees.{flatten, thread-frames, store-frames, script-frames}
-use Rattle.model.specs.Places.{Stands, StandsAt, Spot, starts, start-spot}
-use Rattle.model.proofs.Reading.Skipping.{size, drop-next, drop-flatten}
+use Rattle.model.specs.Places.{Stands, StandsAt, starts, start-spot}
+use Rattle.model.proofs.Places.Skipping.{size, drop-next, drop-flatten}
 
 -- No thread begins inside a stretch.
 starts-flatten : (c : Code) (p q : ℕ) (r : List Frame) → p + size c ≡ q → starts p (flatten c r) ≡ starts q r

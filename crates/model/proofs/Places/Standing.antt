@@ -1,5 +1,5 @@
 -- Where a thread stands behind each step of the machine.
-use Prim.Native.Nat.{ℕ, zero, suc, _+_, _<_}
+use Prim.Native.Nat.{ℕ, zero, suc, _<_}
 use native.Mathlib.Omega.{arith}
 use mathlib.Core.Path.{_≡_, refl, sym, _∙_, ap, subst}
 use mathlib.Core.Bool.{Bool, true, false, not, cond}
@@ -11,17 +11,17 @@ use Rattle.lattice.specs.Levels.{Levels}
 use Rattle.codec.specs.Expressions.{Expr}
 use Rattle.script.specs.Code.{Code, Script}
 use Rattle.script.specs.Code.Code.{done, skip, assign, put, branch, loop, lock}
-use Rattle.model.specs.Threads.{context, Open, Pace, Thread, ended, at-code, at-idle}
-use Rattle.model.specs.Machine.{State, value-of, lag, step-at, step, do-put, close-branch, set-channel, Channel}
+use Rattle.model.specs.Threads.{Open, Pace, Thread, ended, at-code}
+use Rattle.model.specs.Machine.{State, value-of, lag, step-at, step, do-put, close-branch}
 use Rattle.model.specs.Values.{is-zero}
 use Rattle.model.specs.Threads.Open.{in-branch, in-loop, in-lock}
 use Rattle.model.specs.Threads.Pace.{running, idling}
 use Rattle.codec.specs.Frames.{Frame}
-use Rattle.codec.specs.Frames.Frame.{thread-end, if, else, end-if, while, end-while, with, end-with, last}
-use Rattle.script.specs.Trees.{flatten}
-use Rattle.model.specs.Places.{flatten-inside, skip-block, Spot, Opened, Stands, Move, onward, sideways, spot-after, closes, move, Idle, StandsAt}
-use Rattle.model.specs.Places.Move.{stays, on, aside}
-use Rattle.model.proofs.Reading.Skipping.{drop-next, past-lands}
+use Rattle.codec.specs.Frames.Frame.{if, else, end-if, while, end-while}
+use Rattle.model.specs.Places.{flatten-inside, Spot, Opened, Stands, onward, sideways, spot-after, closes, move, Idle, StandsAt}
+use Rattle.model.specs.Places.Move.{on, aside}
+use Rattle.model.proofs.Places.Skipping.{drop-next, past-lands}
+use Rattle.model.proofs.Puts.{put-threads}
 
 module _ (fs r : List Frame) where
   -- A step that goes by the frames at the place.
@@ -81,14 +81,6 @@ module _ (fs r : List Frame) where
         go (a ∷ ps) o = by-onward (record { place = s .place; openers = a ∷ ps }) _ (h .here) (record { here = drop-next (s .place) fs (h .here); opened = o .1 })
 
 -- The machine's step as a whole.
-
-pub put-threads : (k : Levels) (sc : Script) (s : State) (i h : ℕ) (e : Expr) (os : List Open) → do-put k sc s i h e os .threads ≡ s .threads
-unfolding do-put
-put-threads k sc s i h e os = go (k .flows (context os) (getD (sc .channel-levels) h 0)) _
-  where
-    go : (b : Bool) (ch : Channel) → cond b (set-channel s h ch) s .threads ≡ s .threads
-    go true ch = refl
-    go false ch = refl
 
 module _ (fs r : List Frame) (s : Spot) (os : List Open) where
   closing-stands : (n l : ℕ) (w : Bool) (p q c : Code) → Stands fs r s done (in-branch l w p q c ∷ os) → StandsAt fs r (spot-after fs (closes n) s) (close-branch n (in-branch l w p q c) os c)
