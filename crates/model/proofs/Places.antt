@@ -1,3 +1,4 @@
+pub mod Agreeing
 pub mod Beginning
 pub mod Skipping
 pub mod Standing

@@ -1,6 +1,7 @@
 -- A thread as places in its script's frames: where it stands, and where the blocks that it is inside began.
-use Prim.Native.Nat.{ℕ, zero, suc, _+_, _^_}
+use Prim.Native.Nat.{ℕ, zero, suc, _+_, _^_, _<_, _≤_}
 use mathlib.Core.Path.{_≡_}
+use mathlib.Core.Logic.{_≢_}
 use mathlib.Core.Bool.{true, false, cond}
 use mathlib.Core.List.{List, [], _∷_}
 use lib.Dec.{T, ltb}
@@ -9,14 +10,15 @@ use Rattle.lattice.specs.Levels.{Levels}
 use Rattle.codec.specs.Expressions.{Expr}
 use Rattle.script.specs.Code.{Code, Script}
 use Rattle.script.specs.Code.Code.{done, skip, assign, put, branch, loop, lock}
-use Rattle.model.specs.Threads.{Open, Pace, Thread}
-use Rattle.model.specs.Machine.{State, value-of, lag}
+use Rattle.model.specs.Threads.{ended, Open, Pace, Thread}
+use Rattle.model.specs.Machine.{step, State, value-of, lag}
 use Rattle.model.specs.Values.{is-zero}
 use Rattle.model.specs.Threads.Open.{in-branch, in-loop, in-lock}
 use Rattle.model.specs.Threads.Pace.{running, idling}
 use Rattle.codec.specs.Frames.{Head, Frame}
 use Rattle.codec.specs.Frames.Frame.{header, track, channel, thread, thread-end, if, else, end-if, while, end-while, with, end-with, last}
-use Rattle.script.specs.Trees.{flatten, Sound, Valid}
+use Rattle.script.specs.Trees.{flatten, script-frames, head-of, Sound, Valid, ValidScript}
+use Rattle.model.specs.Calls.{begin}
 
 -- The frames from the end of the innermost block on, through the end of the thread, with those that follow it.
 abbrev pub flatten-inside : List Open → List Frame → List Frame
@@ -207,3 +209,19 @@ ValidInside h (in-lock m n ∷ os) = T (ltb (length os) 16) × T (ltb m (2 ^ h .
 pub record ValidThread (h : Head) (t : Thread) : Type 0 where
   pub code : Valid h (length (t .inside)) (t .code)
   pub inside : ValidInside h (t .inside)
+
+-- How a script's frames and the trees of its threads go together.
+pub record Places-agree : Type 0 where
+  -- When a run is made every thread stands at its start in the script's frames.
+  pub begins : (sc : Script) (i : ℕ) → i < length (sc .codes) → (r : List Frame) × StandsAt (script-frames sc) r (start-spot (script-frames sc) i) (getD (begin sc .threads) i ended)
+  -- A turn moves its thread's spot by the frames at it, as `move` says, and leaves every other thread as it is.
+  pub moves : (k : Levels) (sc : Script) (fs r : List Frame) (s : State) (i : ℕ) → i < length (s .threads) → (at-spot : Spot) →
+      let t = getD (s .threads) i ended in
+      StandsAt fs r at-spot t → StandsAt fs r (spot-after fs (move k sc s (t .code) (t .pace) (t .inside)) at-spot) (getD (step k sc s i .threads) i ended)
+  pub others : (k : Levels) (sc : Script) (s : State) (i j : ℕ) → j ≢ i → getD (step k sc s i .threads) j ended ≡ getD (s .threads) j ended
+  -- A place in the frames has one code.
+  pub one-code : (fs r r′ : List Frame) (a b : Spot) (c d : Code) (os ps : List Open) → a .place ≡ b .place → Stands fs r a c os → Stands fs r′ b d ps → c ≡ d
+  -- The threads of a valid script begin valid and stay so through every turn; a valid thread is inside 16 blocks at most.
+  pub begins-valid : (kind : ℕ) (k : Levels) (sc : Script) → ValidScript kind k sc → (i : ℕ) → i < length (sc .codes) → ValidThread (head-of sc) (getD (begin sc .threads) i ended)
+  pub stays-valid : (k : Levels) (sc : Script) (h : Head) (s : State) (i : ℕ) → i < length (s .threads) → ValidThread h (getD (s .threads) i ended) → ValidThread h (getD (step k sc s i .threads) i ended)
+  pub depth : (h : Head) (t : Thread) → ValidThread h t → length (t .inside) ≤ 16

@@ -11,6 +11,7 @@ ghost use Rattle.lattice.specs.Orders.{two-point};
 ghost use Rattle.model.specs.Schedulers.{Rests};
 ghost use Rattle.model.specs.Secrecy.{Every-run-is-secret, Every-view-is-blind};
 ghost use Rattle.model.specs.Inspection.{Every-typed-run-is-unaltered};
+ghost use Rattle.model.specs.Places.{Places-agree};
 ghost use Rattle.model.specs.Follows.{Follows};
 ghost use Rattle.model.specs.Together.{Gives-its-verdicts};
 ghost use Rattle.model.specs.Bottoms.{Bottoms-are-not-read};
@@ -53,6 +54,13 @@ pub fn every_view_is_blind<S: Scheduler>() -> u8
 // A script that passes inspection gets the answers that it would get with every level open.
 pub fn transparency_stands<S: Scheduler>() -> u8
     ensures { λ _. ⌜ Every-typed-run-is-unaltered (S·Scheduler .meaning) ⌝ }
+{
+    0
+}
+
+// Frames and trees go together: where each thread begins, how each turn moves its place, that a place has one code, that threads stay valid.
+pub fn places_agree() -> u8
+    ensures { λ _. ⌜ Places-agree ⌝ }
 {
     0
 }

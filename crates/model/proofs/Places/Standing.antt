@@ -95,6 +95,25 @@ module _ (fs r : List Frame) (s : Spot) (os : List Open) where
   loop-stands true e b c h = record { stands = after-while-past fs r s os e b c h; idle = tt }
   loop-stands false e b c h = record { stands = after-while fs r s os e b c h; idle = tt }
 
+module _ (k : Levels) (sc : Script) (st : State) (i : ℕ) where
+  -- The other threads stay where they are.
+  pub step-others : (c : Code) (pace : Pace) (os : List Open) (j : ℕ) → j ≢ i → getD (step-at k sc st i c pace os .threads) j ended ≡ getD (st .threads) j ended
+  unfolding step-at
+  step-others c (idling n) [] j ne = refl
+  step-others c (idling n) (in-branch l w p q next ∷ os) j ne = getD-set-other (st .threads) i j _ ended ne
+  step-others c (idling n) (in-loop v b next ∷ os) j ne = refl
+  step-others c (idling n) (in-lock m next ∷ os) j ne = refl
+  step-others done running [] j ne = refl
+  step-others done running (in-branch l w p q next ∷ os) j ne = getD-set-other (st .threads) i j _ ended ne
+  step-others done running (in-loop v b next ∷ os) j ne = getD-set-other (st .threads) i j _ ended ne
+  step-others done running (in-lock m next ∷ os) j ne = getD-set-other (st .threads) i j _ ended ne
+  step-others (skip c) running os j ne = getD-set-other (st .threads) i j _ ended ne
+  step-others (assign x v c) running os j ne = getD-set-other (st .threads) i j _ ended ne
+  step-others (put o v c) running os j ne = getD-set-other _ i j _ ended ne ∙ ap (λ (ts : List Thread). getD ts j ended) (put-threads k sc st i o v os)
+  step-others (branch v p q c) running os j ne = getD-set-other (st .threads) i j _ ended ne
+  step-others (loop v b c) running os j ne = getD-set-other (st .threads) i j _ ended ne
+  step-others (lock m v b c) running os j ne = getD-set-other (st .threads) i j _ ended ne
+
 module _ (k : Levels) (sc : Script) (fs r : List Frame) (st : State) (i : ℕ) (within : i < length (st .threads)) where
   -- Thread i was set to one that stands.
   set-stands : (s : Spot) (ts : List Thread) (t : Thread) → ts ≡ st .threads → StandsAt fs r s t → StandsAt fs r s (getD (set ts i t) i ended)
@@ -118,24 +137,6 @@ module _ (k : Levels) (sc : Script) (fs r : List Frame) (st : State) (i : ℕ) (
   step-stands (branch v p q c) running os s h d e = set-stands _ (st .threads) _ refl (branch-stands fs r s os (is-zero (value-of k sc st v)) _ v p q c h)
   step-stands (loop v b c) running os s h d e = set-stands _ (st .threads) _ refl (loop-stands fs r s os (is-zero (value-of k sc st v)) v b c h)
   step-stands (lock m v b c) running os s h d e = set-stands _ (st .threads) _ refl (record { stands = after-with fs r s os m v b c h; idle = tt })
-
-  -- The other threads stay where they are.
-  pub step-others : (c : Code) (pace : Pace) (os : List Open) (j : ℕ) → j ≢ i → getD (step-at k sc st i c pace os .threads) j ended ≡ getD (st .threads) j ended
-  unfolding step-at
-  step-others c (idling n) [] j ne = refl
-  step-others c (idling n) (in-branch l w p q next ∷ os) j ne = getD-set-other (st .threads) i j _ ended ne
-  step-others c (idling n) (in-loop v b next ∷ os) j ne = refl
-  step-others c (idling n) (in-lock m next ∷ os) j ne = refl
-  step-others done running [] j ne = refl
-  step-others done running (in-branch l w p q next ∷ os) j ne = getD-set-other (st .threads) i j _ ended ne
-  step-others done running (in-loop v b next ∷ os) j ne = getD-set-other (st .threads) i j _ ended ne
-  step-others done running (in-lock m next ∷ os) j ne = getD-set-other (st .threads) i j _ ended ne
-  step-others (skip c) running os j ne = getD-set-other (st .threads) i j _ ended ne
-  step-others (assign x v c) running os j ne = getD-set-other (st .threads) i j _ ended ne
-  step-others (put o v c) running os j ne = getD-set-other _ i j _ ended ne ∙ ap (λ (ts : List Thread). getD ts j ended) (put-threads k sc st i o v os)
-  step-others (branch v p q c) running os j ne = getD-set-other (st .threads) i j _ ended ne
-  step-others (loop v b c) running os j ne = getD-set-other (st .threads) i j _ ended ne
-  step-others (lock m v b c) running os j ne = getD-set-other (st .threads) i j _ ended ne
 
   -- One step of thread i, from where it stands.
   pub step-moves : (s : Spot) → StandsAt fs r s (getD (st .threads) i ended)
