@@ -47,8 +47,8 @@ module _ (k : Levels) (sc : Script) {G : Type 0} (schedule : Meaning G) {Memory 
         by false x e later = mathlib.Core.Path.ap₂ (λ y ys. y ∷ ys) e later
 
   pub blind : Lawful k → Levelled k sc → Obedient schedule → Refines → (g : G) (m n : Memory) → Views m (begin sc) g → Views n (begin sc) g → Blind k sc Did m n
-  blind law lev giver refines g m n vm vn reader h xs ys t u alike =
+  blind law lev obedient refines g m n vm vn reader h xs ys t u alike =
       let seen : ℕ → Bool = λ l. k .flows l reader in
       trace-answers seen refines xs m (begin sc) g vm t
-      ∙ secret law lev giver reader h g (calls-of xs) (calls-of ys) (sym (kept-calls seen sc xs) ∙ alike ∙ kept-calls seen sc ys)
+      ∙ secret law lev obedient reader h g (calls-of xs) (calls-of ys) (sym (kept-calls seen sc xs) ∙ alike ∙ kept-calls seen sc ys)
       ∙ sym (trace-answers seen refines ys n (begin sc) g vn u)

@@ -14,9 +14,11 @@ use Rattle.script.specs.Code.Code.{done, skip, assign, put, branch, loop, lock}
 
 -- Sets of locks, as masks
 
+-- Two masks have no lock in common.
 abbrev pub apart : ℕ → ℕ → Bool
 apart a b = eqb (bitAnd a b) 0
 
+-- The locks of the first mask that are not in the second.
 abbrev pub without : ℕ → ℕ → ℕ
 without a b = bitXor a (bitAnd a b)
 
@@ -65,10 +67,11 @@ and-then (branch e p q c) d = branch e p q (and-then c d)
 and-then (loop e b c) d = loop e b (and-then c d)
 and-then (lock m e b c) d = lock m e b (and-then c d)
 
--- Either of two programs defines a variable; the locks that either needs.
+-- Either of two programs defines a variable.
 abbrev pub either-defines : Code → Code → ℕ → Bool
 either-defines pe pu x = assigns x pe || assigns x pu
 
+-- The locks that either of two programs needs.
 abbrev pub either-needs : Code → Code → ℕ
 either-needs pe pu = bitOr (needs pe) (needs pu)
 
@@ -83,6 +86,7 @@ pub record Q : Type 0 where
   pub L : ℕ
   pub w : List Bool
 
+-- What the automaton is told: a branch, a merge of its two ways, a sync on locks, skip, an assignment, an output.
 pub data Input : Type 0 where
   -- The locks that are owned, the condition, the branch that will be executed and the one that will not.
   at-branch : ℕ → Expr → Code → Code → Input
@@ -105,9 +109,11 @@ all-bottom (b ∷ w) = not b && all-bottom w
 abbrev pub carries : Q → Expr → Bool
 carries q e = meets (q .V) (q .secret) e
 
+-- A state with another V.
 abbrev pub with-V : Q → (ℕ → Bool) → Q
 with-V q v = record { V = v; secret = q .secret; W = q .W; L = q .L; w = q .w }
 
+-- A state with another word.
 abbrev pub with-w : Q → List Bool → Q
 with-w q w = record { V = q .V; secret = q .secret; W = q .W; L = q .L; w = w }
 
@@ -159,6 +165,7 @@ react q (at-output e) =
 
 -- Concurrent programs: a word for each thread.
 
+-- The automaton's state for a concurrent program: V, W and L are shared, and each thread has a word of its own.
 pub record Pool : Type 0 where
   pub V : ℕ → Bool
   pub secret : ℕ → Bool
@@ -166,8 +173,10 @@ pub record Pool : Type 0 where
   pub L : ℕ
   pub w : ℕ → List Bool
 
+-- Thread i's own state.
 abbrev pub extract : Pool → ℕ → Q
 extract p i = record { V = p .V; secret = p .secret; W = p .W; L = p .L; w = p .w i }
 
+-- The shared state after thread i has moved.
 abbrev pub update : Pool → ℕ → Q → Pool
 update p i q = record { V = q .V; secret = q .secret; W = q .W; L = q .L; w = λ j. cond (eqb j i) (q .w) (p .w j) }

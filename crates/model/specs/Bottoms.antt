@@ -8,6 +8,7 @@ use Rattle.model.specs.Automaton.{Q, Input, Output, all-bottom, with-w, react}
 use Rattle.model.specs.Automaton.Input.{at-branch, at-merge, at-sync, at-skip, at-assign, at-output}
 use Rattle.model.specs.Automaton.Output.{ok}
 
+-- Whether an input is a merge.
 abbrev pub is-merge : Input → Bool
 is-merge (at-branch m e pe pu) = false
 is-merge (at-merge pe pu) = true
@@ -21,6 +22,7 @@ abbrev pub wordless : Option (Output × Q) → Option (Output × Q)
 wordless none = none
 wordless (some r) = some (r .0, with-w (r .1) [])
 
+-- What is not read.
 pub record Bottoms-are-not-read : Type 0 where
   -- Any other input than a merge is answered by whether the word has a ⊤.
   pub others : (q : Q) (u : List Bool) (x : Input) → is-merge x ≡ false → all-bottom (q .w) ≡ all-bottom u → wordless (react q x) ≡ wordless (react (with-w q u) x)

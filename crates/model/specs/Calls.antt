@@ -1,5 +1,6 @@
 -- The calls on a run: what each answers, and the run after it.
 use Prim.Native.Nat.{ℕ, suc}
+use mathlib.Core.Path.{_≡_}
 use mathlib.Core.Bool.{Bool, true, false, _&&_, cond}
 use mathlib.Core.List.{List, [], _∷_, _++_, map}
 use lib.IntN.{ℤ, pos}
@@ -20,6 +21,10 @@ pub data Call : Type 0 where
   count : Bool → ℕ → Call
   entry : Bool → ℕ → ℕ → Call
   ask : Bool → ℕ → Call
+
+-- Two lists of calls are alike: call by call the same name and arguments, and both or neither find their memory fit.
+abbrev pub Alike : List Call → List Call → Type 0
+Alike xs ys = xs ≡ ys
 
 -- Why a call is refused: memory too short or without a state; no such track, channel, thread or entry; a full track; no turn left.
 pub data Refusal : Type 0 where

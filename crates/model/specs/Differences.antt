@@ -1,4 +1,4 @@
--- Where the machine bars what the automaton would let through to its end: closed ifs that are uneven and yet do not stop.
+-- Where the machine bars what the automaton would let through to its end: closed ifs that take no fixed time and yet do not stop.
 use mathlib.Core.Path.{_≡_}
 use mathlib.Core.Bool.{Bool, true, false}
 use mathlib.Core.List.{[], _∷_}
@@ -25,20 +25,24 @@ pub record Treated (c : Code) (at-its-end : Bool) : Type 0 where
   pub begins : is-some (hears (first (alone (branch secret c done done))) 0 (at-branch 0 secret done c ∷ [])) ≡ true
   pub ends : is-some (hears (first (alone (branch secret c done done))) 0 (at-branch 0 secret done c ∷ at-merge done c ∷ [])) ≡ at-its-end
 
+-- A while on literal nought.
 abbrev pub while-nought : Code
 while-nought = loop (constant (pos 0) ∷ []) done done
 
+-- A while on a variable.
 abbrev pub while-x : Code
 while-x = loop (variable 0 ∷ []) done done
 
+-- A with of literal one around a while.
 abbrev pub with-one : Code
 with-one = lock 1 one while-x done
 
+-- A with on a variable.
 abbrev pub with-x : Code
 with-x = lock 1 (variable 0 ∷ []) done done
 
 -- The departure as it is listed: the automaton stops at the end what the machine bars at the start.
--- And two that it does not list, which the automaton never stops: a loop whose condition is literal nought, and whatever is uneven inside a with of literal one.
+-- And two that it does not list, which the automaton never stops: a loop whose condition is literal nought, and whatever takes no fixed time inside a with of literal one.
 pub record Differs : Type 0 where
   pub loops : Treated while-x false
   pub waits : Treated with-x false

@@ -25,6 +25,7 @@ lasts n = record { fixed = true; duration = n }
 abbrev pub channel-level : Script → ℕ → ℕ
 channel-level sc h = getD (sc .channel-levels) h 0
 
+-- All of them.
 pub record Examples : Type 0 where
   -- −7 by 2 is −3, and 5 by 0 is 0.
   pub toward-zero : apply-binary quotient (negsuc 6) (pos 2) ≡ negsuc 2

@@ -1,4 +1,4 @@
--- With two levels and every channel open, the machine's verdicts are those of the published automaton, but for the departures.
+-- Under two levels every turn of the machine is a transition of the published automaton, and the two agree on who may go on, but for the departures.
 use Prim.Native.Nat.{ℕ, zero, suc, _+_, _<_}
 use mathlib.Core.Path.{_≡_}
 use mathlib.Core.Bool.{Bool, true, false, _&&_, _||_, not, cond}
@@ -28,7 +28,7 @@ use Rattle.lattice.specs.Orders.{two-point}
 
 -- The automaton's state, read off the machine's
 
--- A closed branch in an open place: the outermost closed one of its thread.
+-- A closed branch in an open context: the outermost closed one of its thread.
 abbrev pub outermost : ℕ → List Open → Bool
 outermost l os = is-open (context os) && not (is-open l)
 
@@ -39,10 +39,12 @@ counted x (in-branch l w p q n ∷ os) = cond (outermost l os && (assigns x p ||
 counted x (in-loop e b n ∷ os) = counted x os
 counted x (in-lock m n ∷ os) = counted x os
 
+-- How many do in all threads.
 abbrev pub assigning : ℕ → List Thread → ℕ
 assigning x [] = 0
 assigning x (t ∷ ts) = counted x (t .inside) + assigning x ts
 
+-- The locks that any thread reserves.
 abbrev pub all-reserved : List Thread → ℕ
 all-reserved [] = 0
 all-reserved (t ∷ ts) = bitOr (reserved (t .inside)) (all-reserved ts)
@@ -54,6 +56,7 @@ word (in-branch l w p q n ∷ os) = outermost l os ∷ word os
 word (in-loop e b n ∷ os) = false ∷ word os
 word (in-lock m n ∷ os) = word os
 
+-- The automaton's state that the machine's state stands for.
 abbrev pub pool : Script → State → Pool
 pool sc s = record {
   V = λ x. not (is-open (getD (s .cells) x blank .level));
@@ -75,11 +78,12 @@ pub record Same (n : ℕ) (a b : Pool) : Type 0 where
   pub L : a .L ≡ b .L
   pub w : (i : ℕ) → a .w i ≡ b .w i
 
--- The locks that are owned, as thread i's statement sees them: the published semantics takes out those of each with that it is inside.
+-- The locks that any thread owns.
 abbrev pub owned-by : List Thread → ℕ
 owned-by [] = 0
 owned-by (t ∷ ts) = bitOr (owned (t .inside)) (owned-by ts)
 
+-- The locks that are owned, as thread i's statement sees them: the published semantics takes out those of each with that it is inside.
 abbrev pub others : ℕ → List Thread → ℕ
 others i ts = without (owned-by ts) (owned (getD ts i ended .inside))
 
@@ -131,7 +135,7 @@ module _ (sc : Script) (s : State) (i : ℕ) where
   PutsTo true h e after then = Puts h e after then
   PutsTo false h e after then = Untold then
 
-  -- The beginning of a branch. The departure: an uneven closed one is barred. Any other is ready and answered OK, or waits and is held back.
+  -- The beginning of a branch. The departure: a closed one that takes no fixed time is barred. Any other is ready and answered OK, or waits and is held back.
   abbrev pub Begins : Bool → Input → Status → State → Type 0
   Begins true input now then = now ≡ barred
   Begins false input now then = ((now ≡ ready) × Does input ok then) ⊎ ((now ≡ waiting) × (react asked input ≡ none))

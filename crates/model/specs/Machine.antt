@@ -45,19 +45,23 @@ pub record State : Type 0 where
   pub channels : List Channel
   pub turns : ℕ
 
--- A state with one part changed: a thread, a variable, all variables, a track, a channel.
+-- A state with one thread changed.
 abbrev pub set-thread : State → ℕ → Thread → State
 set-thread s i t = record { cells = s .cells; threads = set (s .threads) i t; tracks = s .tracks; channels = s .channels; turns = s .turns }
 
+-- A state with one variable changed.
 abbrev pub set-cell : State → ℕ → Cell → State
 set-cell s x c = record { cells = set (s .cells) x c; threads = s .threads; tracks = s .tracks; channels = s .channels; turns = s .turns }
 
+-- A state with all variables changed.
 abbrev pub set-cells : State → List Cell → State
 set-cells s cs = record { cells = cs; threads = s .threads; tracks = s .tracks; channels = s .channels; turns = s .turns }
 
+-- A state with one track changed.
 abbrev pub set-track : State → ℕ → List ℤ → State
 set-track s t zs = record { cells = s .cells; threads = s .threads; tracks = set (s .tracks) t zs; channels = s .channels; turns = s .turns }
 
+-- A state with one channel changed.
 abbrev pub set-channel : State → ℕ → Channel → State
 set-channel s h ch = record { cells = s .cells; threads = s .threads; tracks = s .tracks; channels = set (s .channels) h ch; turns = s .turns }
 
@@ -78,18 +82,21 @@ status-number finished = 1
 status-number waiting = 2
 status-number barred = 3
 
+-- Whether a thread that stands so is ready.
 abbrev pub is-ready : Status → Bool
 is-ready ready = true
 is-ready finished = false
 is-ready waiting = false
 is-ready barred = false
 
+-- Whether it is finished.
 abbrev pub is-finished : Status → Bool
 is-finished ready = false
 is-finished finished = true
 is-finished waiting = false
 is-finished barred = false
 
+-- Whether it is barred.
 abbrev pub is-barred : Status → Bool
 is-barred ready = false
 is-barred finished = false
@@ -207,6 +214,7 @@ abbrev pub each-from : (ℕ → Bool) → ℕ → List Thread → List Bool
 each-from f i [] = []
 each-from f i (t ∷ ts) = f i ∷ each-from f (suc i) ts
 
+-- Whether every one of these is true.
 abbrev pub all-true : List Bool → Bool
 all-true [] = true
 all-true (b ∷ bs) = b && all-true bs
@@ -216,6 +224,7 @@ module _ (r : Rules) where
   abbrev pub ready-set : State → List Bool
   ready-set s = each-from (λ i. is-ready (r .stands s i)) 0 (s .threads)
 
+  -- Whether every thread is finished.
   abbrev pub all-finished : State → Bool
   all-finished s = all-true (each-from (λ i. is-finished (r .stands s i)) 0 (s .threads))
 

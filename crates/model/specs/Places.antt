@@ -52,6 +52,7 @@ skip-inside zero (end-with ∷ fs) = 0
 skip-inside (suc d) (end-with ∷ fs) = suc (skip-inside d fs)
 skip-inside d (last m ∷ fs) = 0
 
+-- How many frames stand before the else or the end of a block that was just entered.
 abbrev pub skip-block : List Frame → ℕ
 skip-block fs = skip-inside 0 fs
 
@@ -78,20 +79,25 @@ pub record Stands (fs r : List Frame) (s : Spot) (c : Code) (os : List Open) : T
 pub data Move : Type 0 where
   stays on aside : Move
 
+-- All openers but the innermost block's.
 abbrev pub later-openers : List ℕ → List ℕ
 later-openers [] = []
 later-openers (p ∷ ps) = ps
 
+-- The innermost block's opener.
 abbrev pub opener : List ℕ → ℕ
 opener [] = 0
 opener (p ∷ ps) = p
 
+-- One frame on.
 abbrev pub next : Spot → Spot
 next s = record { place = suc (s .place); openers = s .openers }
 
+-- One frame on, into the block that the frame at the place opens.
 abbrev pub enter : Spot → Spot
 enter s = record { place = suc (s .place); openers = s .place ∷ s .openers }
 
+-- One frame on, out of the innermost block.
 abbrev pub leave : Spot → Spot
 leave s = record { place = suc (s .place); openers = later-openers (s .openers) }
 
@@ -119,6 +125,7 @@ onward (with m e ∷ fs) s = enter s
 onward (end-with ∷ fs) s = leave s
 onward (last m ∷ fs) s = s
 
+-- The spot behind a turn that goes the other way: to the else of an if, or past the end of a while.
 abbrev pub sideways : List Frame → Spot → Spot
 sideways [] s = s
 sideways (header h ∷ fs) s = s
@@ -138,6 +145,7 @@ sideways (with m e ∷ fs) s = s
 sideways (end-with ∷ fs) s = s
 sideways (last m ∷ fs) s = s
 
+-- The spot behind a turn, by how it moves.
 abbrev pub spot-after : List Frame → Move → Spot → Spot
 spot-after fs stays s = s
 spot-after fs on s = onward (drop (s .place) fs) s
@@ -150,6 +158,7 @@ closes (suc n) = stays
 
 -- How one turn of the machine moves a thread by its code, pace and blocks.
 module _ (k : Levels) (sc : Script) where
+  -- How the next turn moves a thread.
   abbrev pub move : State → Code → Pace → List Open → Move
   move s c (idling n) [] = stays
   move s c (idling n) (in-branch l w p q next ∷ os) = closes n
@@ -196,6 +205,7 @@ starts p (with m e ∷ fs) = starts (suc p) fs
 starts p (end-with ∷ fs) = starts (suc p) fs
 starts p (last m ∷ fs) = starts (suc p) fs
 
+-- Where thread i's code begins.
 abbrev pub start-spot : List Frame → ℕ → Spot
 start-spot fs i = record { place = getD (starts 0 fs) i 0; openers = [] }
 
@@ -206,6 +216,7 @@ ValidInside h (in-branch l w p q n ∷ os) = T (ltb (length os) 16) × Valid h (
 ValidInside h (in-loop e b n ∷ os) = T (ltb (length os) 16) × Sound h e × Valid h (suc (length os)) b × Valid h (length os) n × ValidInside h os
 ValidInside h (in-lock m n ∷ os) = T (ltb (length os) 16) × T (ltb m (2 ^ h .locks)) × Valid h (length os) n × ValidInside h os
 
+-- A thread whose code and open blocks are valid.
 pub record ValidThread (h : Head) (t : Thread) : Type 0 where
   pub code : Valid h (length (t .inside)) (t .code)
   pub inside : ValidInside h (t .inside)

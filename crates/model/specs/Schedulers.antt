@@ -24,10 +24,12 @@ abbrev pub first-after : ℕ → List Bool → ℕ → Option ℕ
 first-after zero rs i = none
 first-after (suc n) rs i = let next = suc i % 8 in cond (getD rs next false) (some next) (first-after n rs next)
 
+-- The thread that was chosen, or the last one before.
 abbrev pub chosen-or : ℕ → Option ℕ → ℕ
 chosen-or last none = last
 chosen-or last (some i) = i
 
+-- Its meaning.
 abbrev pub round-robin : Meaning ℕ
 round-robin last rs = let choice = first-after 8 rs last in (choice, chosen-or last choice)
 
@@ -35,3 +37,8 @@ round-robin last rs = let choice = first-after 8 rs last in (choice, chosen-or l
 abbrev pub pick-list : Meaning (List ℕ)
 pick-list [] rs = (none, [])
 pick-list (i ∷ picks) rs = (cond (getD rs i false) (some i) none, picks)
+
+-- Both keep the law, and so rest where no thread is ready.
+pub record Schedulers-obey : Type 0 where
+  pub round : Obedient round-robin
+  pub picks : Obedient pick-list

@@ -10,7 +10,7 @@ use Rattle.script.specs.Code.{Script}
 use Rattle.model.specs.Levels.{Levelled}
 use Rattle.model.specs.Schedulers.{Meaning}
 use Rattle.model.specs.Machine.{State}
-use Rattle.model.specs.Calls.{Call, Answer, begin, perform}
+use Rattle.model.specs.Calls.{Call, Alike, Answer, begin, perform}
 use Rattle.model.specs.Calls.Call.{feed, advance-by, count, entry, ask}
 
 -- Track or channel n, of these declared levels, is hidden where the levels in `seen` are all that is seen. One that is not declared is not hidden.
@@ -25,8 +25,7 @@ left-out seen sc (count ok h) = hidden seen (sc .channel-levels) h
 left-out seen sc (entry ok h i) = hidden seen (sc .channel-levels) h
 left-out seen sc (ask ok i) = false
 
--- The calls that are kept: all that are not left out. Two lists are alike for a reader if these are the same, name and arguments,
--- and whether the lent memory is fit.
+-- The calls that are kept: all that are not left out.
 abbrev pub kept : (ℕ → Bool) → Script → List Call → List Call
 kept seen sc [] = []
 kept seen sc (c ∷ cs) = cond (left-out seen sc c) (kept seen sc cs) (c ∷ kept seen sc cs)
@@ -40,11 +39,11 @@ module _ (k : Levels) (sc : Script) {S : Type 0} (schedule : Meaning S) (seen : 
       let later = kept-answers cs (r .1) (r .2) in
       cond (left-out seen sc c) later (r .0 ∷ later)
 
--- Two runs made alike (of one script, with one scheduler in one state), each with its own list of calls: where the lists are alike
--- for what is seen, the kept calls get the same answers, refusals too.
+-- Two runs made alike (of one script, with one scheduler in one state), each with its own list of calls: where the kept calls are alike,
+-- they get the same answers, refusals too.
 abbrev pub SecretFrom : (k : Levels) (sc : Script) {S : Type 0} → Meaning S → (ℕ → Bool) → Type 0
 SecretFrom k sc {S} schedule seen =
-    (g : S) (xs ys : List Call) → kept seen sc xs ≡ kept seen sc ys →
+    (g : S) (xs ys : List Call) → Alike (kept seen sc xs) (kept seen sc ys) →
     kept-answers k sc schedule seen xs (begin sc) g ≡ kept-answers k sc schedule seen ys (begin sc) g
 
 -- A reader sees the levels that flow to the reader's own.

@@ -38,6 +38,7 @@ raise-taken sc s i (branch e p q c) running os =
 raise-taken sc s i (loop e b c) running os = step-at two-point sc s i (loop e b c) running os
 raise-taken sc s i (lock m e b c) running os = step-at two-point sc s i (lock m e b c) running os
 
+-- The changed rules.
 abbrev pub raising-less : Script → Rules
 raising-less sc = record { stands = status two-point sc; does = λ s i. let t = getD (s .threads) i ended in raise-taken sc s i (t .code) (t .pace) (t .inside) }
 
@@ -54,6 +55,7 @@ taken-only (in-branch l w p q next ∷ os) = in-branch l w (cond w p done) (cond
 taken-only (in-loop e b next ∷ os) = in-loop e b next ∷ taken-only os
 taken-only (in-lock m next ∷ os) = in-lock m next ∷ taken-only os
 
+-- A state whose open blocks are so.
 abbrev pub forget : State → State
 forget s = record {
   cells = s .cells;
@@ -87,6 +89,7 @@ close-at-once sc s i (branch e p q c) running os = step-at two-point sc s i (bra
 close-at-once sc s i (loop e b c) running os = step-at two-point sc s i (loop e b c) running os
 close-at-once sc s i (lock m e b c) running os = step-at two-point sc s i (lock m e b c) running os
 
+-- The changed rules.
 abbrev pub closing-early : Script → Rules
 closing-early sc = record { stands = status two-point sc; does = λ s i. let t = getD (s .threads) i ended in close-at-once sc s i (t .code) (t .pace) (t .inside) }
 
@@ -113,6 +116,7 @@ stubborn g rs = (some 0, g)
 abbrev pub told-by-loop : Script
 told-by-loop = small (loop (held 0 ∷ []) (skip done) (put 0 one done) ∷ [])
 
+-- Each shortcut leaks.
 pub record Shortcuts-leak : Type 0 where
   pub raising : Leaks told-by-level (raising-less told-by-level) (0 ∷ 0 ∷ 0 ∷ 0 ∷ [])
   pub reserving : Leaks told-by-lock (reserving-less told-by-lock) (0 ∷ 1 ∷ 1 ∷ [])

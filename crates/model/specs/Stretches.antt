@@ -44,10 +44,11 @@ measure (lock m e b c) = record {
   duration = suc (suc (measure b .duration + measure c .duration));
 }
 
--- The two halves of the answer.
+-- Whether a stretch takes a fixed time.
 abbrev pub fixed-time : Code → Bool
 fixed-time c = measure c .fixed
 
+-- How long it lasts.
 abbrev pub duration : Code → ℕ
 duration c = measure c .duration
 

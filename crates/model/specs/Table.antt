@@ -18,6 +18,7 @@ use Rattle.model.specs.Automaton.Output.{ok, no, default}
 abbrev pub h : Expr
 h = constant (pos 0) ∷ sample 0 ∷ []
 
+-- v + 1.
 abbrev pub v-and-one : Expr
 v-and-one = variable 0 ∷ constant (pos 1) ∷ binary sum ∷ []
 
@@ -25,9 +26,11 @@ v-and-one = variable 0 ∷ constant (pos 1) ∷ binary sum ∷ []
 abbrev pub p-true : Code
 p-true = assign 2 (constant (pos 1) ∷ []) (put 0 (constant (pos 97) ∷ []) done)
 
+-- The way of the first thread that takes the lock of v.
 abbrev pub p-false : Code
 p-false = lock 1 (constant (pos 1) ∷ []) (assign 0 v-and-one done) done
 
+-- The start state: the private input is secret, and nothing else.
 abbrev pub beginning : Pool
 beginning = record { V = λ x. false; secret = λ t. true; W = λ x. 0; L = 0; w = λ i. [] }
 
@@ -35,17 +38,21 @@ beginning = record { V = λ x. false; secret = λ t. true; W = λ x. 0; L = 0; w
 abbrev pub Row : Type 0
 Row = Output × List Bool × List ℕ × ℕ × List Bool × List Bool
 
+-- The row of an answer and a state.
 abbrev pub row : Output → Pool → Row
 row o p = (o, p .V 0 ∷ p .V 1 ∷ p .V 2 ∷ [], p .W 0 ∷ p .W 1 ∷ p .W 2 ∷ [], p .L, p .w 1, p .w 2)
 
+-- The rows from an answer on.
 abbrev pub follow : Pool → ℕ → Option (Output × Q) → (Pool → List Row) → List Row
 follow p i none k = []
 follow p i (some r) k = row (r .0) (update p i (r .1)) ∷ k (update p i (r .1))
 
+-- The rows of a list of inputs, each with its thread.
 abbrev pub rows : Pool → List (ℕ × Input) → List Row
 rows p [] = []
 rows p (x ∷ xs) = follow p (x .0) (react (extract p (x .0)) (x .1)) (λ r. rows r xs)
 
+-- The inputs of the example, each with its thread.
 abbrev pub inputs : List (ℕ × Input)
 inputs =
     (2, at-sync 1 (variable 1 ∷ []))

@@ -81,9 +81,10 @@ against (suc i) (t ∷ ts) = bitOr (bitOr (owned (t .inside)) (reserved (t .insi
 abbrev pub clash : ℕ → ℕ → Bool
 clash a b = not (eqb (bitAnd a b) 0)
 
--- A thread that runs on at some code, and one that has n idle turns left.
+-- A thread that runs on at some code.
 abbrev pub at-code : Code → List Open → Thread
 at-code c os = record { code = c; pace = running; inside = os }
 
+-- A thread that has n idle turns left.
 abbrev pub at-idle : ℕ → List Open → Thread
 at-idle n os = record { code = done; pace = idling n; inside = os }

@@ -75,10 +75,12 @@ module _ (sc : Script) (s : State) (i : ℕ) where
 
 -- What the automaton answers
 
+-- An answer before later ones.
 abbrev pub note : Output → Option (List Output × Pool) → Option (List Output × Pool)
 note o none = none
 note o (some r) = some (o ∷ r .0, r .1)
 
+-- The answers from one on, with the state after it.
 abbrev pub go-on : Pool → ℕ → Option (Output × Q) → (Pool → Option (List Output × Pool)) → Option (List Output × Pool)
 go-on p i none rest = none
 go-on p i (some r) rest = note (r .0) (rest (update p i (r .1)))
@@ -88,11 +90,12 @@ abbrev pub hears : Pool → ℕ → List Input → Option (List Output × Pool)
 hears p i [] = some ([], p)
 hears p i (x ∷ xs) = go-on p i (react (extract p i) x) (λ r. hears r i xs)
 
+-- Whether the automaton lets on.
 abbrev pub is-some : Option (List Output × Pool) → Bool
 is-some none = false
 is-some (some r) = true
 
--- The departures: an uneven if that would be closed, and a loop whose condition is.
+-- The departures: a branch that takes no fixed time and would be closed, and a loop whose condition is.
 abbrev pub departs : Q → Code → Pace → Bool
 departs q c (idling n) = false
 departs q done running = false

@@ -6,7 +6,7 @@ use Prim.Native.Nat.{ℕ}
 use lib.Dec.{T}
 use Rattle.lattice.specs.Levels.{Levels}
 use Rattle.script.specs.Code.{Script}
-use Rattle.model.specs.Calls.{Call, Answer}
+use Rattle.model.specs.Calls.{Call, Alike, Answer}
 use Rattle.model.specs.Secrecy.{left-out}
 
 -- A call as it was made, and what it answered.
@@ -19,9 +19,11 @@ pub data Trace {Memory : Type 0} (Did : Memory → Call → Answer → Memory �
   stop : {m : Memory} → Trace Did m []
   link : {m n : Memory} {a : Asked} {xs : List Asked} → Did m (a .call) (a .answer) n → Trace Did n xs → Trace Did m (a ∷ xs)
 
+-- The calls of what was asked.
 abbrev pub calls-of : List Asked → List Call
 calls-of xs = map (λ a. a .call) xs
 
+-- The answers of what was asked.
 abbrev pub answers-of : List Asked → List Answer
 answers-of xs = map (λ a. a .answer) xs
 
@@ -35,4 +37,4 @@ abbrev pub Blind : (k : Levels) (sc : Script) {Memory : Type 0} (Did : Memory �
 Blind k sc Did m n =
     (reader : ℕ) → T (k .has reader) → (xs ys : List Asked) → Trace Did m xs → Trace Did n ys →
     let seen : ℕ → Bool = λ l. k .flows l reader in
-    calls-of (kept-asked seen sc xs) ≡ calls-of (kept-asked seen sc ys) → answers-of (kept-asked seen sc xs) ≡ answers-of (kept-asked seen sc ys)
+    Alike (calls-of (kept-asked seen sc xs)) (calls-of (kept-asked seen sc ys)) → answers-of (kept-asked seen sc xs) ≡ answers-of (kept-asked seen sc ys)

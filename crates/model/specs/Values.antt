@@ -69,11 +69,12 @@ abbrev pub sample-at : List ℤ → ℤ → ℤ
 sample-at samples (pos n) = getD samples n (pos 0)
 sample-at samples (negsuc n) = pos 0
 
--- The working number on top, and those below it.
+-- The working number on top.
 abbrev pub top : List ℤ → ℤ
 top [] = pos 0
 top (x ∷ xs) = x
 
+-- The working numbers below the top.
 abbrev pub below : List ℤ → List ℤ
 below [] = []
 below (x ∷ xs) = xs

@@ -8,7 +8,7 @@ ghost use lib.Dec.{T as Holds};
 ghost use lib.ListN.{getD};
 ghost use Rattle.lattice.specs.Levels.{Lawful};
 ghost use Rattle.lattice.specs.Orders.{two-point};
-ghost use Rattle.model.specs.Schedulers.{Rests};
+ghost use Rattle.model.specs.Schedulers.{Rests, Schedulers-obey};
 ghost use Rattle.model.specs.Secrecy.{Every-run-is-secret, Every-view-is-blind};
 ghost use Rattle.model.specs.Inspection.{Every-typed-run-is-unaltered};
 ghost use Rattle.model.specs.Places.{Places-agree};
@@ -33,6 +33,13 @@ pub trait Scheduler {
 // Where no thread is ready a scheduler rests: this follows from its law.
 pub fn rests_when_none_is_ready<S: Scheduler>() -> u8
     ensures { λ _. ⌜ Rests (S·Scheduler .meaning) ⌝ }
+{
+    0
+}
+
+// Round robin and the pick list, as they are defined, keep the law.
+pub fn schedulers_obey() -> u8
+    ensures { λ _. ⌜ Schedulers-obey ⌝ }
 {
     0
 }

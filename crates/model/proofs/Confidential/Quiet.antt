@@ -1,4 +1,4 @@
--- A thread inside a branch whose level is not seen: what it is at is even, and it lasts as long whichever way was taken.
+-- A thread inside a branch whose level is not seen: what it is at takes a fixed time, and it lasts as long whichever way was taken.
 use mathlib.Core.Path.{_≡_, refl, _∙_}
 use mathlib.Core.Bool.{Bool, true, false, _&&_, _||_}
 use mathlib.Core.List.{List, [], _∷_}

@@ -40,9 +40,9 @@ not-barred : (a b : Bool) → choose-status a b ≡ ready → a ≡ false
 not-barred true b e = cc
 not-barred false b e = refl
 
-even-of : (a b : Bool) → b ≡ false → (not a && not b) ≡ false → T a
-even-of true b e f = tt
-even-of false b e f = let z : true ≡ false = cc in absurd (mathlib.Core.Bool.true≢false z)
+fixed-of : (a b : Bool) → b ≡ false → (not a && not b) ≡ false → T a
+fixed-of true b e f = tt
+fixed-of false b e f = let z : true ≡ false = cc in absurd (mathlib.Core.Bool.true≢false z)
 
 open-of : (a : Bool) → not a ≡ false → T a
 open-of true e = tt
@@ -166,7 +166,7 @@ module _ (v : View) where
             → TR v (at-code (cond (not (is-zero (val s e))) p q) (in-branch (v .k .join (context os) (lev s e)) (not (is-zero (val s e))) p q c ∷ os))
             (at-code (cond (not (is-zero (val t e))) p q) (in-branch (v .k .join (context os) (lev t e)) (not (is-zero (val t e))) p q c ∷ os))
         shuts o =
-            let flat = even-of (fixed-time p && fixed-time q) (is-open (v .k .join (context os) (lev s e))) (hid-not-open v o) (not-barred _ _ r) in
+            let flat = fixed-of (fixed-time p && fixed-time q) (is-open (v .k .join (context os) (lev s e))) (hid-not-open v o) (not-barred _ _ r) in
             let hp = within-p {y = record { p = p; q = q; next = c; rest = os }} (and-left (fixed-time p) (fixed-time q) flat) in
             let hq = within-q {y = record { p = p; q = q; next = c; rest = os }} (and-right (fixed-time p) (fixed-time q) flat) in
             apart (record { p = p; q = q; next = c; rest = os }) (suc (max (duration p) (duration q))) _ _ _ _ o (lr-hid-right v lr o) (fits-mask e p q c os f) (fits-next e p q c f)

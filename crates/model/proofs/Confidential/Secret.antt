@@ -53,7 +53,7 @@ module _ (v : View) where
     safe-r = begin-safe;
   }
 
-  module _ {G : Type 0} (schedule : Meaning G) (giver : Obedient schedule) where
+  module _ {G : Type 0} (schedule : Meaning G) (obedient : Obedient schedule) where
     abbrev does : Call → State → G → Answer × State × G
     does = perform (v .k) (v .sc) schedule
 
@@ -85,15 +85,15 @@ module _ (v : View) where
       where
         hit : x ≡ y → left xs ≡ left ys → does x s g .0 ∷ told xs (does x s g .1) (does x s g .2) ≡ does y t g .0 ∷ told ys (does y t g .1) (does y t g .2)
         hit p q =
-            let r : Performed v schedule giver (does x s g) (does y t g) = subst (λ (c : Call). Performed v schedule giver (does x s g) (does c t g)) p (performed v schedule giver x s t g o h) in
+            let r : Performed v schedule obedient (does x s g) (does y t g) = subst (λ (c : Call). Performed v schedule obedient (does x s g) (does c t g)) p (performed v schedule obedient x s t g o h) in
             ap₂ {B = List Answer} {C = List Answer} _∷_ (r .answer)
-            (subst (λ (z : G). told xs (does x s g .1) (does x s g .2) ≡ told ys (does y t g .1) z) (r .givers) (ih ys _ _ _ (r .states) q))
+            (subst (λ (z : G). told xs (does x s g .1) (does x s g .2) ≡ told ys (does y t g .1) z) (r .schedulers) (ih ys _ _ _ (r .states) q))
 
         go : (b : Bool) → out y ≡ b → x ∷ left xs ≡ cond b (left ys) (y ∷ left ys)
             → ((t : State) → Pair v s t → x ∷ left xs ≡ left ys → does x s g .0 ∷ told xs (does x s g .1) (does x s g .2) ≡ told ys t g)
             → does x s g .0 ∷ told xs (does x s g .1) (does x s g .2) ≡ cond b (told ys (does y t g .1) (does y t g .2)) (does y t g .0 ∷ told ys (does y t g .1) (does y t g .2))
         go true p e f =
-            let u = unheard v schedule giver y t g p (h .safe-r) in
+            let u = unheard v schedule obedient y t g p (h .safe-r) in
             subst (λ (z : G). does x s g .0 ∷ told xs (does x s g .1) (does x s g .2) ≡ told ys (does y t g .1) z) (sym (u .1)) (f _ (pair-right v h (u .0)) e)
         go false p e f = let p1 : x ≡ y = cc in let p2 : left xs ≡ left ys = cc in hit p1 p2
 
@@ -104,7 +104,7 @@ module _ (v : View) where
         go : (b : Bool) → out x ≡ b → cond b (left xs) (x ∷ left xs) ≡ left ys → Rest xs
             → cond b (told xs (does x s g .1) (does x s g .2)) (does x s g .0 ∷ told xs (does x s g .1) (does x s g .2)) ≡ told ys t g
         go true p e ih =
-            let u = unheard v schedule giver x s g p (h .safe-l) in
+            let u = unheard v schedule obedient x s g p (h .safe-l) in
             subst (λ (z : G). told xs (does x s g .1) z ≡ told ys t g) (sym (u .1)) (ih ys _ t g (pair-left v h (u .0)) e)
         go false p e ih = find x xs ih p ys s t g h e
 
@@ -113,7 +113,7 @@ module _ (v : View) where
 
 -- Secrecy from a view, by four laws of the kind of levels.
 pub blind : {S : Type 0} {schedule : Meaning S} → Obedient schedule → Every-view-is-blind schedule
-blind {schedule = schedule} giver k sc law lev seen view g xs ys e = secret-view (record { k = k; sc = sc; seen = seen; law = law; levelled = lev; view = view }) schedule giver g xs ys e
+blind {schedule = schedule} obedient k sc law lev seen view g xs ys e = secret-view (record { k = k; sc = sc; seen = seen; law = law; levelled = lev; view = view }) schedule obedient g xs ys e
 
 bounds : {k : Levels} → Lawful k → Bounded k
 bounds law = record { open-has = law .open-has; join-has = law .join-has; join-left = law .join-left; join-right = law .join-right }
@@ -123,4 +123,4 @@ reader-view : (k : Levels) → Lawful k → (r : ℕ) → T (k .has r) → IsVie
 reader-view k law r h = record { open-seen = law .open-least r h; down = λ a b ha hb f s. law .flows-trans a b r ha hb h f s }
 
 pub secret : {k : Levels} {sc : Script} {S : Type 0} {schedule : Meaning S} → Lawful k → Levelled k sc → Obedient schedule → Secret k sc schedule
-secret {k} {sc} {schedule = schedule} law lev giver reader h = blind giver k sc (bounds law) lev (λ l. k .flows l reader) (reader-view k law reader h)
+secret {k} {sc} {schedule = schedule} law lev obedient reader h = blind obedient k sc (bounds law) lev (λ l. k .flows l reader) (reader-view k law reader h)

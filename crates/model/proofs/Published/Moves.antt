@@ -92,7 +92,7 @@ pub ways-need : (w : Bool) (p q : Code) → either-needs (cond w p q) (cond w q 
 ways-need true p q = refl
 ways-need false p q = or-comm (needs q) (needs p)
 
--- What is even does not stop.
+-- What takes a fixed time does not stop.
 fixed-goes : (c : Code) → T (fixed-time c) → stops c ≡ false
 fixed-goes done h = refl
 fixed-goes (skip c) h = fixed-goes c h

@@ -24,7 +24,7 @@ use Rattle.model.proofs.Published.Masks.{test, test-or, test-zero}
 use Rattle.model.proofs.Published.Opens.{open-join, nought-sum}
 use Rattle.model.proofs.Published.Locks.{holds}
 
--- A stretch inside a closed branch: what it assigns and needs is the outermost closed branch's, and it is even.
+-- A stretch inside a closed branch: what it assigns and needs is the outermost closed branch's, and it takes a fixed time.
 abbrev pub Within : Code → List Open → Type 0
 Within c os =
     ((x : ℕ) → T (assigns x c) → eqb (counted x os) 0 ≡ false) ×

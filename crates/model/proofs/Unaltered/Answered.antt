@@ -26,18 +26,18 @@ pub record Alike (k : Levels) (sc : Script) (typing : List ℕ) {A G : Type 0} (
   pub kept : Kept k sc typing (r .1)
   pub answer : r .0 ≡ r′ .0
   pub state : erase (r .1) ≡ r′ .1
-  pub giver : r .2 ≡ r′ .2
+  pub obedient : r .2 ≡ r′ .2
 
 module _ {k : Levels} {sc : Script} {typing : List ℕ} (W : World k sc typing) {G : Type 0} (schedule : Meaning G) where
   still : {A : Type 0} (a : A) (s : State) (g : G) → Kept k sc typing s → Alike k sc typing (a, s, g) (a, erase s, g)
-  still a s g K = record { kept = K; answer = refl; state = refl; giver = refl }
+  still a s g K = record { kept = K; answer = refl; state = refl; obedient = refl }
 
   either : {A : Type 0} (b : Bool) (r r′ q q′ : A × State × G) → Alike k sc typing r r′ → Alike k sc typing q q′ → Alike k sc typing (cond b r q) (cond b r′ q′)
   either true r r′ q q′ x y = x
   either false r r′ q q′ x y = y
 
   later-alike : (r r′ : ℕ × State × G) → Alike k sc typing r r′ → Alike k sc typing {A = ℕ} (suc (r .0), r .1, r .2) (suc (r′ .0), r′ .1, r′ .2)
-  later-alike r r′ x = record { kept = x .kept; answer = ap suc (x .answer); state = x .state; giver = x .giver }
+  later-alike r r′ x = record { kept = x .kept; answer = ap suc (x .answer); state = x .state; obedient = x .obedient }
 
   advance-alike : (n : ℕ) (s : State) (g : G) → Kept k sc typing s → Alike k sc typing (advance (rules k sc) schedule n s g) (advance (rules k (opened sc)) schedule n (erase s) g)
   advance-alike zero s g K = still 0 s g K
@@ -61,18 +61,18 @@ module _ {k : Levels} {sc : Script} {typing : List ℕ} (W : World k sc typing) 
   perform-alike (feed false t z) s g K = still (refused unfit-memory) s g K
   perform-alike (feed true t z) s g K = rw (length-map (sc .track-levels) (λ (l : ℕ). zero))
       (either (ltb t (length (sc .track-levels))) _ _ _ _
-      (either (ltb (length (getD (s .tracks) t [])) (getD (sc .track-sizes) t 0)) _ _ _ _ (record { kept = record { cells = K .cells; threads = K .threads }; answer = refl; state = refl; giver = refl }) (still (refused track-full) s g K))
+      (either (ltb (length (getD (s .tracks) t [])) (getD (sc .track-sizes) t 0)) _ _ _ _ (record { kept = record { cells = K .cells; threads = K .threads }; answer = refl; state = refl; obedient = refl }) (still (refused track-full) s g K))
       (still (refused no-such) s g K))
   perform-alike (advance-by false n) s g K = still (refused unfit-memory) s g K
   perform-alike (advance-by true n) s g K =
       let x = advance-alike n s g K in
-      either (eqb (s .turns) most-turns) _ _ _ _ (still (refused out-of-turns) s g K) (record { kept = x .kept; answer = ap gave (x .answer); state = x .state; giver = x .giver })
+      either (eqb (s .turns) most-turns) _ _ _ _ (still (refused out-of-turns) s g K) (record { kept = x .kept; answer = ap gave (x .answer); state = x .state; obedient = x .obedient })
   perform-alike (count false h) s g K = still (refused unfit-memory) s g K
-  perform-alike (count true h) s g K = record { kept = K; answer = rw (length-map (sc .channel-levels) (λ (l : ℕ). zero)); state = refl; giver = refl }
+  perform-alike (count true h) s g K = record { kept = K; answer = rw (length-map (sc .channel-levels) (λ (l : ℕ). zero)); state = refl; obedient = refl }
   perform-alike (entry false h i) s g K = still (refused unfit-memory) s g K
-  perform-alike (entry true h i) s g K = record { kept = K; answer = rw (length-map (sc .channel-levels) (λ (l : ℕ). zero)); state = refl; giver = refl }
+  perform-alike (entry true h i) s g K = record { kept = K; answer = rw (length-map (sc .channel-levels) (λ (l : ℕ). zero)); state = refl; obedient = refl }
   perform-alike (ask false i) s g K = still (refused unfit-memory) s g K
-  perform-alike (ask true i) s g K = record { kept = K; answer = rw (standing W s K i); state = refl; giver = refl }
+  perform-alike (ask true i) s g K = record { kept = K; answer = rw (standing W s K i); state = refl; obedient = refl }
 
   pub answers-alike : (cs : List Call) (s : State) (g : G) → Kept k sc typing s → answers k sc schedule cs s g ≡ answers k (opened sc) schedule cs (erase s) g
   answers-alike [] s g K = refl
@@ -81,4 +81,4 @@ module _ {k : Levels} {sc : Script} {typing : List ℕ} (W : World k sc typing) 
       let r′ = perform k (opened sc) schedule c (erase s) g in
       let x = perform-alike c s g K in
       ap₂ (λ (a : Answer) (rest : List Answer). a ∷ rest) (x .answer)
-      (answers-alike cs (r .1) (r .2) (x .kept) ∙ ap₂ (answers k (opened sc) schedule cs) (x .state) (x .giver))
+      (answers-alike cs (r .1) (r .2) (x .kept) ∙ ap₂ (answers k (opened sc) schedule cs) (x .state) (x .obedient))

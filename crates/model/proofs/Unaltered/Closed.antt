@@ -1,4 +1,4 @@
--- A stretch that types at a level that is not open is even and names no lock; a stretch that assigns a variable types at a level under the variable's.
+-- A stretch that types at a level that is not open takes a fixed time and names no lock; a stretch that assigns a variable types at a level under the variable's.
 use Prim.Native.Nat.{ℕ, zero, suc}
 use mathlib.Core.Path.{_≡_, refl, sym, ap, subst, _∙_}
 use mathlib.Core.Bool.{Bool, true, false, _&&_, _||_, cond, false≢true}
