@@ -21,7 +21,7 @@ use Rattle.model.proofs.Confidential.Stack.{HadStack, assigned, had-pop, guard
 use Rattle.model.proofs.Confidential.Stack.In.{here}
 use Rattle.model.proofs.Confidential.Quiet.{Way, base, mask, Above, Quiet, above-in, above-reserved, above-owned, above-guard, quiet-above}
 
--- At a place that is not open, the locks that a stretch names are reserved.
+-- In a context that is not open, the locks that a stretch names are reserved.
 pub record Fit (c : Code) (os : List Open) : Type 0 where
   pub is : (T (is-open (context os)) → ⊥) → Lies (needs c) (reserved os)
 

@@ -79,7 +79,7 @@ word-context (in-branch l w p q n ∷ os) h = ap (λ (b : Bool). not (outermost 
 word-context (in-loop e b n ∷ os) h = word-context os (h .1)
 word-context (in-lock m n ∷ os) h = word-context os (h .1)
 
--- In an open place nothing is reserved.
+-- In an open context nothing is reserved.
 pub none-reserved : (os : List Open) → Sound os → T (is-open (context os)) → reserved os ≡ 0
 none-reserved [] h o = refl
 none-reserved (in-branch l w p q n ∷ os) h o = rw (is-true (is-open l) o, is-true (is-open (context os)) (h .0 o)) (none-reserved os (h .3) (h .0 o))
@@ -201,7 +201,7 @@ module _ (os : List Open) where
       (λ n a. or-in-right n (bitOr m (needs b)) (needs c) a)
       (λ a. and-right (is-literal-one e && fixed-time b) (fixed-time c) a)
 
-  -- The locks of a with in a closed place are reserved, and its expression is literal one.
+  -- The locks of a with in a closed context are reserved, and its expression is literal one.
   pub within-locks : (m : ℕ) (e : Expr) (b c : Code) → Within (lock m e b c) os → (n : ℕ) → T (test n m) → T (test n (reserved os))
   within-locks m e b c h n a = h .1 n (or-in-left n (bitOr m (needs b)) (needs c) (or-in-left n m (needs b) a))
 
