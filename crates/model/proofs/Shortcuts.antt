@@ -17,6 +17,7 @@ use Rattle.model.specs.Shortcuts.{Leaks, told-by-level, raising-less, told-by-
 raising-leaks : Leaks told-by-level (raising-less told-by-level) (0 ∷ 0 ∷ 0 ∷ 0 ∷ [])
 unfolding step-at do-put
 raising-leaks = record {
+  valid = ((tt, (tt, tt), (tt, (tt, tt), tt), tt, (tt, (tt, tt), tt)), tt);
   tells = λ e. let z : _≡_ {A = ℕ} 0 1 = ap (λ (es : List Entry). cond (getD es 0 no-entry .mark) 1 0) e in omega arith;
   tells-not = refl;
 }
@@ -24,6 +25,7 @@ raising-leaks = record {
 reserving-leaks : Leaks told-by-lock (reserving-less told-by-lock) (0 ∷ 1 ∷ 1 ∷ [])
 unfolding step-at do-put
 reserving-leaks = record {
+  valid = ((tt, (tt, tt), (tt, tt, (tt, tt), tt, tt), tt, tt), ((tt, tt, (tt, tt), (tt, (tt, tt), tt), tt), tt));
   tells = λ e. let z : _≡_ {A = ℕ} 1 0 = ap (λ (es : List Entry). length es) e in omega arith;
   tells-not = refl;
 }
@@ -31,6 +33,7 @@ reserving-leaks = record {
 closing-leaks : Leaks told-by-turn (closing-early told-by-turn) (0 ∷ 0 ∷ 0 ∷ 0 ∷ 0 ∷ [])
 unfolding step-at do-put
 closing-leaks = record {
+  valid = ((tt, (tt, tt), tt, tt, (tt, (tt, tt), tt)), tt);
   tells = λ e. let z : _≡_ {A = ℕ} 3 5 = ap (λ (es : List Entry). getD es 0 no-entry .turn) e in omega arith;
   tells-not = refl;
 }

@@ -8,10 +8,12 @@ use mathlib.Core.Logic.{_≢_}
 use mathlib.Core.Option.{some}
 use lib.IntN.{ℤ, pos}
 use lib.ListN.{length, getD}
+use Rattle.std.specs.shelf.Lists.{All}
 use Rattle.lattice.specs.Orders.{two-point}
 use Rattle.codec.specs.Expressions.Op.{variable, held}
 use Rattle.script.specs.Code.{Code, Script}
 use Rattle.script.specs.Code.Code.{done, skip, assign, put, branch, loop, lock}
+use Rattle.script.specs.Trees.{Valid, head-of}
 use Rattle.model.specs.Stretches.{assigns}
 use Rattle.model.specs.Values.{is-zero}
 use Rattle.model.specs.Threads.{Open, Pace, Thread, ended, context}
@@ -103,8 +105,9 @@ told-by-turn = small (branch secret (skip (skip done)) done (put 0 one done) ∷
 abbrev pub shows : Rules → Script → List ℕ → ℤ → List Entry
 shows r sc picks z = getD (advance r pick-list (length picks) (set-track (begin sc) 0 (z ∷ [])) picks .1 .channels) 0 unused .entries
 
--- Under the changed rules the open channel tells whether 0 or 1 was fed; under the machine's own it does not.
+-- Of a script with valid code: under the changed rules the open channel tells whether 0 or 1 was fed; under the machine's own it does not.
 pub record Leaks (sc : Script) (changed : Rules) (picks : List ℕ) : Type 0 where
+  pub valid : All (Valid (head-of sc) 0) (sc .codes)
   pub tells : shows changed sc picks (pos 0) ≢ shows changed sc picks (pos 1)
   pub tells-not : shows (rules two-point sc) sc picks (pos 0) ≡ shows (rules two-point sc) sc picks (pos 1)
 
