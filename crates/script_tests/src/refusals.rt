@@ -1,0 +1,324 @@
+// Which refusal a text gets, and at which line: tables of texts, each read under both kinds of levels.
+use lattice::Bits;
+use lattice::BitsLattice;
+use lattice::Lattice;
+use lattice::TwoPoint;
+use lattice::TwoPointLattice;
+use script::SLAB;
+use script::faults::Layer;
+use script::faults::LayerDebug;
+use script::faults::LayerPartialEq;
+use script::read;
+use script::write;
+use std::alloc::Global;
+use std::test::*;
+
+// What stands behind the front of a text, and what reading the whole tells; number 0 where it is accepted.
+struct Case {
+    tail: &'static str,
+    number: u8,
+    line: u16,
+}
+
+// A script up to its thread's begin, in four lines: one thread, variable, track and channel, and two locks; 2,048 samples and 512 entries.
+const BEGUN: &[u8] = b"0101010101010102\n0200000000010800\n0300000000000200\n2000\n";
+
+// The script that was read is written back, byte for byte.
+fn comes_back<K: Lattice>(heap: Global, text: &[u8], slab: &[u8]) -> Result<(), Fail> {
+    let mut out = vec![in heap; 7u8; text.len()]?;
+    let written = write::<K>(slab, &mut out);
+    check(written.is_ok())?;
+    check(out.as_slice() == text)
+}
+
+// Reads a text into a slab of sevens: either it comes back, or the refusal is the one expected and the slab then zero.
+fn expect<K: Lattice>(heap: Global, text: &[u8], number: u8, line: u16) -> Result<(), Fail> {
+    let mut slab = [7u8; SLAB];
+    match read::<K>(text, &mut slab) {
+        Ok(_) => {
+            check_eq(number, 0)?;
+            comes_back::<K>(heap, text, &slab)
+        }
+        Err(fault) => {
+            let told = fault.refusal();
+            check_eq(told.number, number)?;
+            check_eq(told.line, Some(line))?;
+            check_eq(told.layer, if number == 1 { Layer::Line } else { Layer::Script })?;
+            check(slab == [0u8; SLAB])
+        }
+    }
+}
+
+// Under kind 01, and under kind 02: that is the sixth digit of a header.
+fn expect_both(heap: Global, front: &[u8], case: &Case) -> Result<(), Fail> {
+    let mut text = front.to_vec(heap)?;
+    text.extend_from_slice(case.tail.as_bytes())?;
+    expect::<TwoPoint>(heap, &text, case.number, case.line)?;
+    if text.starts_with(b"0101") {
+        if let Some(kind) = text.get_mut(5) {
+            *kind = b'2';
+        }
+    }
+    expect::<Bits>(heap, &text, case.number, case.line)
+}
+
+fn expect_all(heap: Global, front: &[u8], cases: &[Case]) -> Result<(), Fail> {
+    for case in cases {
+        expect_both(heap, front, case).note(case.tail)?;
+    }
+    Ok(())
+}
+
+// No frame: empty, odd, another byte, no 0A. Lower case, a space and a carriage return are other bytes.
+const LINES: [Case; 11] = [
+    Case { tail: "\n", number: 1, line: 1 },
+    Case { tail: "010\n", number: 1, line: 1 },
+    Case { tail: "0a\n", number: 1, line: 1 },
+    Case { tail: "0G\n", number: 1, line: 1 },
+    Case { tail: "0/\n", number: 1, line: 1 },
+    Case { tail: "0:\n", number: 1, line: 1 },
+    Case { tail: "0@\n", number: 1, line: 1 },
+    Case { tail: "30 30\n", number: 1, line: 1 },
+    Case { tail: "30\r\n", number: 1, line: 1 },
+    Case { tail: "0101010101010102", number: 1, line: 1 },
+    Case { tail: "0101010101010102\n\n", number: 1, line: 2 },
+];
+
+// Kinds that no script has, those of run lines too, and lengths that are not the kind's.
+const SHAPES: [Case; 19] = [
+    Case { tail: "00\n", number: 2, line: 1 },
+    Case { tail: "04\n", number: 2, line: 1 },
+    Case { tail: "22\n", number: 2, line: 1 },
+    Case { tail: "47\n", number: 2, line: 1 },
+    Case { tail: "4F00\n", number: 2, line: 1 },
+    Case { tail: "50000000000007\n", number: 2, line: 1 },
+    Case { tail: "510008\n", number: 2, line: 1 },
+    Case { tail: "5200\n", number: 2, line: 1 },
+    Case { tail: "5400\n", number: 2, line: 1 },
+    Case { tail: "01010101010101\n", number: 2, line: 1 },
+    Case { tail: "010101010101010200\n", number: 2, line: 1 },
+    Case { tail: "0101010101010102\n02000000000108\n", number: 2, line: 2 },
+    Case { tail: "0101010101010102\n020000000001080000\n", number: 2, line: 2 },
+    Case { tail: "20\n", number: 2, line: 1 },
+    Case { tail: "200000\n", number: 2, line: 1 },
+    Case { tail: "2100\n", number: 2, line: 1 },
+    Case { tail: "3000\n", number: 2, line: 1 },
+    Case { tail: "7F00\n", number: 2, line: 1 },
+    Case { tail: "7F000000\n", number: 2, line: 1 },
+];
+
+// Each field of a header at its bounds; a header that passes is missing its next line.
+const RANGES: [Case; 18] = [
+    Case { tail: "0100010101010102\n", number: 3, line: 1 },
+    Case { tail: "0102010101010102\n", number: 3, line: 1 },
+    Case { tail: "01011F0101010102\n", number: 3, line: 1 },
+    Case { tail: "0101010001010102\n", number: 3, line: 1 },
+    Case { tail: "0101010801010102\n", number: 5, line: 2 },
+    Case { tail: "0101010901010102\n", number: 3, line: 1 },
+    Case { tail: "0101010100010102\n", number: 3, line: 1 },
+    Case { tail: "0101010140010102\n", number: 5, line: 2 },
+    Case { tail: "0101010141010102\n", number: 3, line: 1 },
+    Case { tail: "0101010101000102\n", number: 5, line: 2 },
+    Case { tail: "0101010101080102\n", number: 5, line: 2 },
+    Case { tail: "0101010101090102\n", number: 3, line: 1 },
+    Case { tail: "0101010101010002\n", number: 3, line: 1 },
+    Case { tail: "0101010101010802\n", number: 5, line: 2 },
+    Case { tail: "0101010101010902\n", number: 3, line: 1 },
+    Case { tail: "0101010101010100\n", number: 5, line: 2 },
+    Case { tail: "0101010101010110\n", number: 5, line: 2 },
+    Case { tail: "0101010101010111\n", number: 3, line: 1 },
+];
+
+// 2,048 samples and 512 entries, in one line and summed over two; capacity 0; before any header a level is not tested.
+const CAPACITIES: [Case; 14] = [
+    Case { tail: "0101010101010102\n0200000000000000\n", number: 5, line: 3 },
+    Case { tail: "0101010101010102\n0200000000000800\n", number: 5, line: 3 },
+    Case { tail: "0101010101010102\n0200000000000801\n", number: 3, line: 2 },
+    Case { tail: "0101010101020102\n0200000000000400\n0201000000000400\n", number: 5, line: 4 },
+    Case { tail: "0101010101020102\n0200000000000400\n0201000000000401\n", number: 3, line: 3 },
+    Case { tail: "0101010101000102\n0300000000000000\n", number: 5, line: 3 },
+    Case { tail: "0101010101000102\n0300000000000200\n", number: 5, line: 3 },
+    Case { tail: "0101010101000102\n0300000000000201\n", number: 3, line: 2 },
+    Case { tail: "0101010101000202\n0300000000000100\n0301000000000100\n", number: 5, line: 4 },
+    Case { tail: "0101010101000202\n0300000000000100\n0301000000000101\n", number: 3, line: 3 },
+    Case { tail: "0200000000000801\n", number: 3, line: 1 },
+    Case { tail: "0200000000000800\n", number: 5, line: 1 },
+    Case { tail: "0300000000000201\n", number: 3, line: 1 },
+    Case { tail: "0200FFFFFFFF0000\n", number: 5, line: 1 },
+];
+
+// Frames that come too early, too late or with the wrong number.
+const ORDER: [Case; 12] = [
+    Case { tail: "", number: 5, line: 1 },
+    Case { tail: "30\n", number: 5, line: 1 },
+    Case { tail: "21\n", number: 5, line: 1 },
+    Case { tail: "7F0001\n", number: 5, line: 1 },
+    Case { tail: "0101010101010102\n0102010101010102\n", number: 3, line: 2 },
+    Case { tail: "0101010101010102\n0201000000000000\n", number: 5, line: 2 },
+    Case { tail: "0101010101010102\n0200000000000000\n0201000000000000\n", number: 5, line: 3 },
+    Case { tail: "0101010101010102\n0300000000000200\n", number: 5, line: 2 },
+    Case { tail: "0101010101010102\n0200000000000000\n2000\n", number: 5, line: 3 },
+    Case { tail: "0101010101010102\n0200000000000000\n0301000000000000\n", number: 5, line: 3 },
+    Case { tail: "0101010101010102\n31FF02FF\n", number: 5, line: 2 },
+    Case { tail: "0101010101010102\n7F0002\n", number: 5, line: 2 },
+];
+
+// Behind the begun thread: blocks unmatched, wrong counts, lines left over.
+const BLOCKS: [Case; 27] = [
+    Case { tail: "", number: 5, line: 5 },
+    Case { tail: "21\n7F0006\n", number: 0, line: 0 },
+    Case { tail: "21\n7F0005\n", number: 5, line: 6 },
+    Case { tail: "21\n7F0007\n", number: 5, line: 6 },
+    Case { tail: "21\n7F0006\n30\n", number: 5, line: 7 },
+    Case { tail: "21\n7F0006\n\n", number: 1, line: 7 },
+    Case { tail: "21\n7F0006\n4F00\n", number: 2, line: 7 },
+    Case { tail: "21\n7F0006\n0200FFFFFFFF0001\n", number: 3, line: 7 },
+    Case { tail: "21\n7F0006\n0200FFFFFFFF0000\n", number: 4, line: 7 },
+    Case { tail: "0200FFFFFFFF0001\n", number: 3, line: 5 },
+    Case { tail: "0200FFFFFFFF0000\n", number: 4, line: 5 },
+    Case { tail: "0200000000000000\n", number: 5, line: 5 },
+    Case { tail: "2000\n", number: 5, line: 5 },
+    Case { tail: "21\n2001\n", number: 5, line: 6 },
+    Case { tail: "21\n21\n", number: 5, line: 6 },
+    Case { tail: "7F0005\n", number: 5, line: 5 },
+    Case { tail: "41\n", number: 5, line: 5 },
+    Case { tail: "42\n", number: 5, line: 5 },
+    Case { tail: "44\n", number: 5, line: 5 },
+    Case { tail: "46\n", number: 5, line: 5 },
+    Case { tail: "400200\n42\n", number: 5, line: 6 },
+    Case { tail: "400200\n41\n41\n", number: 5, line: 7 },
+    Case { tail: "400200\n41\n44\n", number: 5, line: 7 },
+    Case { tail: "430200\n21\n", number: 5, line: 6 },
+    Case { tail: "430200\n46\n", number: 5, line: 6 },
+    Case { tail: "4500000200\n44\n", number: 5, line: 6 },
+    Case { tail: "400200\n41\n42\n430200\n44\n4500030200\n46\n30\n21\n7F000E\n", number: 0, line: 0 },
+];
+
+// Behind the begun thread: what is declared and what is not; 6 comes before 7 as far as the code can be read.
+const NAMES: [Case; 18] = [
+    Case { tail: "31000200\n", number: 5, line: 6 },
+    Case { tail: "31010200\n", number: 6, line: 5 },
+    Case { tail: "31000201\n", number: 6, line: 5 },
+    Case { tail: "32000200\n", number: 5, line: 6 },
+    Case { tail: "32010200\n", number: 6, line: 5 },
+    Case { tail: "310001000000000300\n", number: 5, line: 6 },
+    Case { tail: "310001000000000301\n", number: 6, line: 5 },
+    Case { tail: "31000400\n", number: 5, line: 6 },
+    Case { tail: "31000401\n", number: 6, line: 5 },
+    Case { tail: "4500000200\n", number: 5, line: 6 },
+    Case { tail: "4500030200\n", number: 5, line: 6 },
+    Case { tail: "4500040200\n", number: 6, line: 5 },
+    Case { tail: "4580000200\n", number: 6, line: 5 },
+    Case { tail: "400201\n", number: 6, line: 5 },
+    Case { tail: "430201\n", number: 6, line: 5 },
+    Case { tail: "31001002FF\n", number: 6, line: 5 },
+    Case { tail: "310002FFFF\n", number: 6, line: 5 },
+    Case { tail: "3100FF02FF\n", number: 7, line: 5 },
+];
+
+// Behind the begun thread: codes unknown or cut, stacks that do not work out, 16 and 17 numbers, 48 and 49 bytes, 102, 103 and 104 digits.
+const EXPRESSIONS: [Case; 24] = [
+    Case { tail: "3100FF\n", number: 7, line: 5 },
+    Case { tail: "310000\n", number: 7, line: 5 },
+    Case { tail: "310005\n", number: 7, line: 5 },
+    Case { tail: "31000F\n", number: 7, line: 5 },
+    Case { tail: "31001A\n", number: 7, line: 5 },
+    Case { tail: "310001000000\n", number: 7, line: 5 },
+    Case { tail: "310002\n", number: 7, line: 5 },
+    Case { tail: "310003\n", number: 7, line: 5 },
+    Case { tail: "310004\n", number: 7, line: 5 },
+    Case { tail: "310010\n", number: 7, line: 5 },
+    Case { tail: "3100020010\n", number: 7, line: 5 },
+    Case { tail: "310018\n", number: 7, line: 5 },
+    Case { tail: "31000300\n", number: 7, line: 5 },
+    Case { tail: "310002000200\n", number: 7, line: 5 },
+    Case { tail: "31000200020002000200020002000200020002000200020002000200020002000200101010101010101010101010101010\n", number: 5, line: 6 },
+    Case { tail: "3100020002000200020002000200020002000200020002000200020002000200020002001010101010101010101010101010\n", number: 7, line: 5 },
+    Case { tail: "3100\n", number: 2, line: 5 },
+    Case { tail: "40\n", number: 2, line: 5 },
+    Case { tail: "450001\n", number: 2, line: 5 },
+    Case { tail: "3100020018181818181818181818181818181818181818181818181818181818181818181818181818181818181818181818\n", number: 5, line: 6 },
+    Case { tail: "310002001818181818181818181818181818181818181818181818181818181818181818181818181818181818181818181818\n", number: 2, line: 5 },
+    Case { tail: "450001020018181818181818181818181818181818181818181818181818181818181818181818181818181818181818181818\n", number: 5, line: 6 },
+    Case { tail: "4500010200181818181818181818181818181818181818181818181818181818181818181818181818181818181818181818181\n", number: 1, line: 5 },
+    Case { tail: "45000102001818181818181818181818181818181818181818181818181818181818181818181818181818181818181818181818\n", number: 1, line: 5 },
+];
+
+// Behind the begun thread: 16 and 17 blocks deep, after 6 and 7.
+const NESTING: [Case; 7] = [
+    Case { tail: "430200\n430200\n430200\n430200\n430200\n430200\n430200\n430200\n430200\n430200\n430200\n430200\n430200\n430200\n430200\n430200\n", number: 5, line: 21 },
+    Case { tail: "430200\n430200\n430200\n430200\n430200\n430200\n430200\n430200\n430200\n430200\n430200\n430200\n430200\n430200\n430200\n430200\n430200\n", number: 8, line: 21 },
+    Case { tail: "430200\n430200\n430200\n430200\n430200\n430200\n430200\n430200\n430200\n430200\n430200\n430200\n430200\n430200\n430200\n430200\n430201\n", number: 6, line: 21 },
+    Case { tail: "430200\n430200\n430200\n430200\n430200\n430200\n430200\n430200\n430200\n430200\n430200\n430200\n430200\n430200\n430200\n430200\n4310\n", number: 7, line: 21 },
+    Case { tail: "430200\n430200\n430200\n430200\n430200\n430200\n430200\n430200\n430200\n430200\n430200\n430200\n430200\n430200\n430200\n400200\n41\n400200\n", number: 8, line: 22 },
+    Case { tail: "400200\n4500010200\n400200\n4500010200\n400200\n4500010200\n400200\n4500010200\n400200\n4500010200\n400200\n4500010200\n400200\n4500010200\n400200\n4500010200\n30\n", number: 5, line: 22 },
+    Case { tail: "400200\n4500010200\n400200\n4500010200\n400200\n4500010200\n400200\n4500010200\n400200\n4500010200\n400200\n4500010200\n400200\n4500010200\n400200\n4500010200\n400200\n", number: 8, line: 21 },
+];
+
+#[test]
+fn lines(rt: LibcRuntime) -> Result<(), Fail> {
+    expect_all(rt.alloc(), b"", &LINES)
+}
+
+#[test]
+fn shapes(rt: LibcRuntime) -> Result<(), Fail> {
+    expect_all(rt.alloc(), b"", &SHAPES)
+}
+
+#[test]
+fn ranges(rt: LibcRuntime) -> Result<(), Fail> {
+    expect_all(rt.alloc(), b"", &RANGES)?;
+    expect_all(rt.alloc(), b"", &CAPACITIES)
+}
+
+#[test]
+fn order(rt: LibcRuntime) -> Result<(), Fail> {
+    expect_all(rt.alloc(), b"", &ORDER)?;
+    expect_all(rt.alloc(), BEGUN, &BLOCKS)
+}
+
+#[test]
+fn expressions(rt: LibcRuntime) -> Result<(), Fail> {
+    expect_all(rt.alloc(), BEGUN, &NAMES)?;
+    expect_all(rt.alloc(), BEGUN, &EXPRESSIONS)
+}
+
+#[test]
+fn nesting(rt: LibcRuntime) -> Result<(), Fail> {
+    expect_all(rt.alloc(), BEGUN, &NESTING)
+}
+
+// What depends on the kind: the last code of each and the next, a second header, and a header of the other kind.
+#[test]
+fn of_each_kind(rt: LibcRuntime) -> Result<(), Fail> {
+    let heap = rt.alloc();
+    expect::<TwoPoint>(heap, b"0101010101010102\n0200000000010000\n", 5, 3)?;
+    expect::<TwoPoint>(heap, b"0101010101010102\n0200000000020000\n", 4, 2)?;
+    expect::<Bits>(heap, b"0101020101010102\n02000000FFFF0000\n", 5, 3)?;
+    expect::<Bits>(heap, b"0101020101010102\n0200000100000000\n", 4, 2)?;
+    expect::<TwoPoint>(heap, b"0101010101010102\n0101010101010102\n", 5, 2)?;
+    expect::<Bits>(heap, b"0101010101010102\n", 3, 1)?;
+    expect::<TwoPoint>(heap, b"0101020101010102\n", 3, 1)
+}
+
+// The begun script with so many skips, its thread's end and its last frame, which counts the frames as `last` says.
+fn skips(heap: Global, count: usize, last: &[u8]) -> Result<Vec<u8>, Fail> {
+    let mut text = BEGUN.to_vec(heap)?;
+    for _ in 0..count {
+        text.extend_from_slice(b"30\n")?;
+    }
+    text.extend_from_slice(last)?;
+    Ok(text)
+}
+
+// 512 frames are a script; the 513th is one too many, but its own tests come first.
+#[test]
+fn frames(rt: LibcRuntime) -> Result<(), Fail> {
+    let heap = rt.alloc();
+    expect::<TwoPoint>(heap, &skips(heap, 506, b"21\n7F0200\n")?, 0, 0)?;
+    expect::<TwoPoint>(heap, &skips(heap, 507, b"21\n7F0201\n")?, 8, 513)?;
+    expect::<TwoPoint>(heap, &skips(heap, 507, b"21\n7F0200\n")?, 5, 513)?;
+    expect::<TwoPoint>(heap, &skips(heap, 508, b"3\n")?, 1, 513)?;
+    expect::<TwoPoint>(heap, &skips(heap, 508, b"30\n")?, 8, 513)?;
+    expect::<TwoPoint>(heap, &skips(heap, 508, b"")?, 5, 513)
+}
