@@ -86,25 +86,37 @@ fn declarations() -> Result<(), Fail> {
     check(holds::<TwoPoint>(&slab).is_none())
 }
 
-// An output of the very length, one byte short of it, and longer; and a slab without a script.
+// A write that must refuse leaves zeros.
+fn not_written(slab: &[u8], out: &mut [u8]) -> Result<(), Fail> {
+    match write::<TwoPoint>(slab, out) {
+        Ok(_) => return Err(Fail::new("written")),
+        Err(fault) => check_eq(fault.refusal(), NO_STATE)?,
+    }
+    for byte in out {
+        check_eq(*byte, 0)?;
+    }
+    Ok(())
+}
+
+// A longer output, one of the very length, and one that is a byte short.
+fn writes_listing(slab: &[u8]) -> Result<(), Fail> {
+    let mut long = [7u8; 200];
+    check_eq(write::<TwoPoint>(slab, &mut long).ok(), Some(LISTING.len()))?;
+    check(long.starts_with(LISTING))?;
+    check(long[139..] == [7u8; 61])?;
+    let mut exact = [7u8; 139];
+    check_eq(write::<TwoPoint>(slab, &mut exact).ok(), Some(139))?;
+    check(exact == LISTING)?;
+    not_written(slab, &mut [7u8; 138])
+}
+
 #[test]
 fn outputs() -> Result<(), Fail> {
     let mut slab = [7u8; SLAB];
-    let mut out = [7u8; 200];
-    check(write::<TwoPoint>(&slab, &mut out).is_err())?;
-    check(out == [0u8; 200])?;
+    not_written(&slab, &mut [7u8; 200])?;
     check(read::<TwoPoint>(LISTING, &mut slab).is_ok())?;
+    writes_listing(&slab)?;
     let mut out = [7u8; 200];
-    check_eq(write::<TwoPoint>(&slab, &mut out).ok(), Some(LISTING.len()))?;
-    check(out.starts_with(LISTING))?;
-    check(LISTING.len() == 139)?;
-    check(out[139..] == [7u8; 61])?;
-    check_eq(write::<TwoPoint>(&slab, &mut out[0..139]).ok(), Some(139))?;
-    match write::<TwoPoint>(&slab, &mut out[0..138]) {
-        Ok(_) => return Err(Fail::new("written into a short output")),
-        Err(fault) => check_eq(fault.refusal(), NO_STATE)?,
-    }
-    check(out[0..138] == [0u8; 138])?;
     check(write::<Bits>(&slab, &mut out).is_err())?;
     check(out == [0u8; 200])
 }
