@@ -12,16 +12,39 @@ use script::write;
 use std::error::AnyError;
 
 // The tracks and channels of a script, which stand behind its header.
-fn list_stores(rt: &LibcRuntime, slab: &[u8], declared: Declarations, bits: bool) -> Result<(), AnyError> {
+fn list_stores(
+    rt: &LibcRuntime,
+    slab: &[u8],
+    declared: Declarations,
+    bits: bool,
+) -> Result<(), AnyError> {
     for slot in 1..17u16 {
         match frame_at(slab, slot) {
-            Some(Frame::Track { number, level, capacity }) => {
+            Some(
+                Frame::Track {
+                    number,
+                    level,
+                    capacity,
+                },
+            ) => {
                 let level = Level { code: level, bits };
-                println!(rt, "  track {number}: level {level}, {capacity} samples at most")?;
+                println!(
+                    rt,
+                    "  track {number}: level {level}, {capacity} samples at most"
+                )?;
             }
-            Some(Frame::Channel { number, level, capacity }) => {
+            Some(
+                Frame::Channel {
+                    number,
+                    level,
+                    capacity,
+                },
+            ) => {
                 let level = Level { code: level, bits };
-                println!(rt, "  channel {number}: level {level}, {capacity} entries at most")?;
+                println!(
+                    rt,
+                    "  channel {number}: level {level}, {capacity} entries at most"
+                )?;
             }
             _ => break,
         }
@@ -37,23 +60,50 @@ fn write_back<K: Lattice>(rt: &LibcRuntime, text: &[u8], slab: &[u8]) -> Result<
     let mut out = vec![in rt.alloc(); 0u8; text.len()]?;
     match write::<K>(slab, &mut out) {
         Ok(count) if out.as_slice() == text => {
-            println!(rt, "Written back: {count} bytes, the very text that was read.")?;
+            println!(
+                rt,
+                "Written back: {count} bytes, the very text that was read."
+            )?;
         }
-        Ok(count) => println!(rt, "Written back: {count} bytes, but NOT the text that was read.")?,
+        Ok(count) => println!(
+            rt,
+            "Written back: {count} bytes, but NOT the text that was read."
+        )?,
         Err(_) => println!(rt, "NOT written back.")?,
     }
     Ok(())
 }
 
-pub fn account<K: Lattice>(rt: &LibcRuntime, text: &[u8], slab: &[u8], declared: Declarations) -> Result<(), AnyError> {
+pub fn account<K: Lattice>(
+    rt: &LibcRuntime,
+    text: &[u8],
+    slab: &[u8],
+    declared: Declarations,
+) -> Result<(), AnyError> {
     let head = declared.head;
     let kind = head.kind;
     let count = text.len();
-    println!(rt, "The script was read and checked: {count} bytes, kept in {} bytes of memory.", slab.len())?;
-    let name = if kind == 2 { "sets of sixteen bits" } else { "open and closed" };
+    println!(
+        rt,
+        "The script was read and checked: {count} bytes, kept in {} bytes of memory.",
+        slab.len()
+    )?;
+    let name = if kind == 2 {
+        "sets of sixteen bits"
+    } else {
+        "open and closed"
+    };
     println!(rt, "  kind of levels: {kind:02X}, {name}")?;
-    println!(rt, "  threads: {}, variables: {}, locks: {}", head.threads, head.variables, head.locks)?;
-    println!(rt, "  tracks: {}, channels: {}, frames: {}", head.tracks, head.channels, declared.frames)?;
+    println!(
+        rt,
+        "  threads: {}, variables: {}, locks: {}",
+        head.threads, head.variables, head.locks
+    )?;
+    println!(
+        rt,
+        "  tracks: {}, channels: {}, frames: {}",
+        head.tracks, head.channels, declared.frames
+    )?;
     list_stores(rt, slab, declared, kind == 2)?;
     write_back::<K>(rt, text, slab)
 }
@@ -61,7 +111,11 @@ pub fn account<K: Lattice>(rt: &LibcRuntime, text: &[u8], slab: &[u8], declared:
 pub fn refused(rt: &LibcRuntime, refusal: Refusal) -> Result<(), AnyError> {
     let number = refusal.number;
     match refusal.line {
-        Some(line) => println!(rt, "Refused: number {number} at line {line}, by {}.", by(refusal.layer))?,
+        Some(line) => println!(
+            rt,
+            "Refused: number {number} at line {line}, by {}.",
+            by(refusal.layer)
+        )?,
         None => println!(rt, "Refused: number {number}, by {}.", by(refusal.layer))?,
     }
     println!(rt, "Meaning: {}.", meaning(number))?;

@@ -14,6 +14,7 @@ use script::SLAB;
 use script::read;
 use std::error::AnyError;
 use std::io::Read;
+
 mod account;
 mod intake;
 mod words;

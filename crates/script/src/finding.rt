@@ -6,14 +6,17 @@ ghost use Rattle.std.specs.Options.{Cases};
 ghost use Rattle.codec.specs.Expressions.{expr-bytes, decode, op-bytes};
 ghost use Rattle.script.specs.Findings.{all-zero, length-at};
 ghost use Rattle.script.specs.Nexts.{Next, NoNext};
+ghost use Rattle.script.specs.Promises.{Frame-found, Holds-gives};
 ghost use Rattle.codec.specs.Operations.{op-of};
+use crate::Declarations;
 use crate::state::State;
 use codec::expressions::Op;
 use codec::expressions::first_op;
+use codec::frames::Frame;
 use codec::frames::read_frame;
 use lattice::Lattice;
 
-pub(crate) fn is_zero(bytes: &[u8]) -> bool
+fn is_zero(bytes: &[u8]) -> bool
     ensures { λ r. ⌜ r ≡ all-zero (now (bytes .entry)) ⌝ }
 {
     for b in bytes {
@@ -84,7 +87,7 @@ pub(crate) fn front_of(slot: &[u8]) -> &[u8]
 }
 
 // The state behind the frame in a slot; None where it holds none that passes its tests, with zeros behind it.
-pub(crate) fn next_slot<K: Lattice>(state: State, slot: &[u8]) -> Option<State>
+fn next_slot<K: Lattice>(state: State, slot: &[u8]) -> Option<State>
     requires long { ⌜ length (now slot) ≡ 51 ⌝ }
     requires deep { ⌜ state .depth ≤ 16 ⌝ }
     ensures { λ r. ⌜ Cases r (NoNext kind order state (now (slot .entry))) (Next kind order state (now (slot .entry))) ⌝ }
@@ -103,4 +106,46 @@ pub(crate) fn next_slot<K: Lattice>(state: State, slot: &[u8]) -> Option<State>
         },
         None => None,
     }
+}
+
+// What the script declares that a slab of any bytes holds; None where it holds no script of the kind K.
+pub fn holds<K: Lattice>(slab: &[u8]) -> Option<Declarations>
+    ensures { λ r. ⌜ Holds-gives kind order (now (slab .entry)) r ⌝ }
+{
+    if slab.len() < 26112 {
+        return None;
+    }
+    let mut state = State::at_first();
+    while !state.ended() {
+        if state.frames >= 512 {
+            return None;
+        }
+        let at = state.frames as usize * 51;
+        match next_slot::<K>(state, &slab[at..at + 51]) {
+            Some(next) => {
+                state = next;
+            }
+            None => return None,
+        }
+    }
+    let used = state.frames as usize * 51;
+    if is_zero(&slab[used..26112]) {
+        Some(state.declarations())
+    } else {
+        None
+    }
+}
+
+// The frame in a slot of a slab, counted from 0; None where there is no such slot or it begins with no frame.
+pub fn frame_at(slab: &[u8], slot: u16) -> Option<Frame<'_>>
+    ensures { λ r. ⌜ Frame-found (now (slab .entry)) slot r ⌝ }
+{
+    let at = slot as usize * 51;
+    if slot >= 512 {
+        return None;
+    }
+    if slab.len() < at + 51 {
+        return None;
+    }
+    read_frame(front_of(&slab[at..at + 51]))
 }

@@ -11,7 +11,8 @@ ghost use Rattle.script.specs.Format.{all-channels, all-threads, all-tracks, e
 ghost use Rattle.script.specs.Format.Block.{before-else, behind-else};
 ghost use Rattle.script.specs.Format.Phase.{start};
 ghost use Rattle.script.specs.Refusals.{cause-number};
-ghost use Rattle.script.specs.Stages.{Entered, Judged, Passes, block-of, expression-asks, numbered, phase-of, seen-of};
+ghost use Rattle.script.specs.Stages.{Entered, Judged, Passes, block-of, declaring, expression-asks, numbered, phase-of, seen-of};
+use crate::Declarations;
 use crate::faults::Cause;
 use codec::expressions::leaves_one_number;
 use codec::expressions::names_declared;
@@ -465,5 +466,17 @@ impl State {
             frames: self.frames + 1,
             ..next
         })
+    }
+
+    // What was declared so far.
+    pub(crate) fn declarations(self) -> Declarations
+        ensures { λ r. ⌜ r ≡ declaring self ⌝ }
+    {
+        Declarations {
+            head: self.head,
+            samples: self.samples,
+            entries: self.entries,
+            frames: self.frames,
+        }
     }
 }

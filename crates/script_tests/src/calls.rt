@@ -127,7 +127,13 @@ fn frames_by_slot() -> Result<(), Fail> {
     let mut slab = [7u8; SLAB];
     check(read::<TwoPoint>(LISTING, &mut slab).is_ok())?;
     match frame_at(&slab, 1) {
-        Some(Frame::Track { number, level, capacity }) => {
+        Some(
+            Frame::Track {
+                number,
+                level,
+                capacity,
+            },
+        ) => {
             check_eq(number, 0)?;
             check_eq(level, 1)?;
             check_eq(capacity, 4)?;

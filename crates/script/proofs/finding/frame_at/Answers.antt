@@ -5,7 +5,7 @@ use lib.ListN.{take, drop}
 use Rattle.codec.specs.Frames.{frame-of}
 use Rattle.script.specs.Findings.{length-at}
 use Rattle.script.proofs.Framing.{cut-slab, found, in-slab, no-slot}
-use Rattle.script.proofs.frame_at.Needs as need
+use Rattle.script.proofs.finding.frame_at.Needs as need
 
 pub returns-then-slot-ge512 : need.returns-then-slot-ge512
 returns-then-slot-ge512 c = found (c .args .slab .now) (c .args .slot) _ (no-slot (c .args .slab .now) (c .args .slot) (c .if-slot-ge512 .taken))

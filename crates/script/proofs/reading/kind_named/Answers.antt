@@ -8,7 +8,7 @@ use Rattle.script.specs.Format.{first-kind, whole-line}
 use Rattle.script.specs.Takings.{Line-slot}
 use Rattle.script.proofs.LineTakings.{line-of}
 use Rattle.script.proofs.Naming.{first-line, names, no-line}
-use Rattle.script.proofs.kind_named.Needs as need
+use Rattle.script.proofs.reading.kind_named.Needs as need
 
 pub returns-in-rest : need.returns-in-rest
 returns-in-rest c = names (c .args .lines .now) _ (no-line (c .args .lines .now) (c .in-rest .ensures tt))

@@ -8,8 +8,7 @@ use Rattle.codec.specs.Frames.{Frame}
 use Rattle.script.specs.Text.{text-of}
 use Rattle.script.proofs.Searching.{slotted}
 use Rattle.script.proofs.Holding.{held-few}
-use Rattle.script.proofs.Promising.{writes}
-use Rattle.script.proofs.write.Needs as need
+use Rattle.script.proofs.writing.write_from.Needs as need
 
 pub put-frames-requires : need.put-frames-requires
 put-frames-requires g c κs =
@@ -20,18 +19,15 @@ pub returns-in-Some-put-frames : need.returns-in-Some-put-frames
 returns-in-Some-put-frames g c =
     let h = c .in-Some .ensures tt in
     let p = c .in-Some-put-frames .ensures tt (h .frames) (slotted (g .K·Lattice .kind) (g .K·Lattice .order) (c .args .slab .now) (c .in-Some .declared) h) in
-    writes (g .K·Lattice .kind) (g .K·Lattice .order) (c .args .slab .now) (c .args .out .now) _ _ (record { frames = h .frames; holds = h .holds; only = h .only; long = p .long; is = p .is })
+    record { frames = h .frames; holds = h .holds; only = h .only; long = p .long; is = p .is }
 
 pub returns-in-None-put-frames : need.returns-in-None-put-frames
 returns-in-None-put-frames g c =
     let h = c .in-Some .ensures tt in
     let p = c .in-None-put-frames .ensures tt (h .frames) (slotted (g .K·Lattice .kind) (g .K·Lattice .order) (c .args .slab .now) (c .in-Some .declared) h) in
     let same : length (c .put-frames .last .out) ≡ length (c .args .out .now) = search needs in
-    writes (g .K·Lattice .kind) (g .K·Lattice .order) (c .args .slab .now) (c .args .out .now) _ _ (record {
+    record {
       is = refl;
       zeros = c .fill .ensures .after (λ y e. e) ∙ ap (λ n. replicate n 0) same;
       lacks = λ fs v. subst (λ (gs : List Frame). length (c .args .out .now) < length (text-of gs)) (sym (h .only fs v)) p;
-    })
-
-pub returns-in-None : need.returns-in-None
-returns-in-None g c = writes (g .K·Lattice .kind) (g .K·Lattice .order) (c .args .slab .now) (c .args .out .now) _ _ (search needs)
+    }

@@ -6,7 +6,7 @@ use lib.ListN.{take, drop}
 use Rattle.script.specs.Nexts.{Next, NoNext}
 use Rattle.script.specs.Promises.{Held}
 use Rattle.script.proofs.Searching.{found-first, found-full, found-next, found-none, found-all, found-more}
-use Rattle.script.proofs.holds.Needs as need
+use Rattle.script.proofs.finding.holds.Needs as need
 
 pub loop-state-holds : need.loop-state-holds
 loop-state-holds g c =
@@ -38,7 +38,7 @@ returns-in-None g c =
 
 pub returns-then-is-zero : need.returns-then-is-zero
 returns-then-is-zero g c =
-    subst (Held (g .K·Lattice .kind) (g .K·Lattice .order) (c .args .slab .now)) (sym (c .declared-by .ensures))
+    subst (Held (g .K·Lattice .kind) (g .K·Lattice .order) (c .args .slab .now)) (sym (c .declarations .ensures))
     (found-all (g .K·Lattice .kind) (g .K·Lattice .order) (c .args .slab .now) (c .loop-state .state) (c .loop-state .inv) (c .if-slab-lt26112 .left) (c .loop-state-test .ensures tt) (c .if-is-zero .ensures tt))
 
 pub returns-else-is-zero : need.returns-else-is-zero
