@@ -9,6 +9,9 @@ ghost use Rattle.script.specs.Nexts.{Next, NoNext};
 ghost use Rattle.script.specs.Promises.{Frame-found, Holds-gives};
 ghost use Rattle.codec.specs.Operations.{op-of};
 use crate::Declarations;
+use crate::FRAMES;
+use crate::SLAB;
+use crate::SLOT;
 use crate::state::State;
 use codec::expressions::Op;
 use codec::expressions::first_op;
@@ -16,6 +19,7 @@ use codec::frames::Frame;
 use codec::frames::read_frame;
 use lattice::Lattice;
 
+// Whether there is nothing but zeros.
 fn is_zero(bytes: &[u8]) -> bool
     ensures { λ r. ⌜ r ≡ all-zero (now (bytes .entry)) ⌝ }
 {
@@ -27,6 +31,7 @@ fn is_zero(bytes: &[u8]) -> bool
     true
 }
 
+// How many bytes an operation has.
 fn op_length(op: Op) -> usize
     ensures length { λ r. ⌜ r ≡ length (op-bytes (op-of op)) ⌝ }
     ensures short { λ r. ⌜ r ≤ 5 ⌝ }
@@ -83,7 +88,7 @@ pub(crate) fn front_of(slot: &[u8]) -> &[u8]
     ensures short { λ r. ⌜ length (now r) ≤ 51 ⌝ }
 {
     let len = frame_length(slot);
-    if len < 51 { &slot[0..len] } else { slot }
+    if len < SLOT { &slot[0..len] } else { slot }
 }
 
 // The state behind the frame in a slot; None where it holds none that passes its tests, with zeros behind it.
@@ -93,7 +98,7 @@ fn next_slot<K: Lattice>(state: State, slot: &[u8]) -> Option<State>
     ensures { λ r. ⌜ Cases r (NoNext kind order state (now (slot .entry))) (Next kind order state (now (slot .entry))) ⌝ }
 {
     let len = frame_length(slot);
-    if len > 51 {
+    if len > SLOT {
         return None;
     }
     if !is_zero(&slot[len..]) {
@@ -112,24 +117,24 @@ fn next_slot<K: Lattice>(state: State, slot: &[u8]) -> Option<State>
 pub fn holds<K: Lattice>(slab: &[u8]) -> Option<Declarations>
     ensures { λ r. ⌜ Holds-gives kind order (now (slab .entry)) r ⌝ }
 {
-    if slab.len() < 26112 {
+    if slab.len() < SLAB {
         return None;
     }
     let mut state = State::at_first();
     while !state.ended() {
-        if state.frames >= 512 {
+        if state.frames >= FRAMES {
             return None;
         }
-        let at = state.frames as usize * 51;
-        match next_slot::<K>(state, &slab[at..at + 51]) {
+        let at = state.frames as usize * SLOT;
+        match next_slot::<K>(state, &slab[at..at + SLOT]) {
             Some(next) => {
                 state = next;
             }
             None => return None,
         }
     }
-    let used = state.frames as usize * 51;
-    if is_zero(&slab[used..26112]) {
+    let used = state.frames as usize * SLOT;
+    if is_zero(&slab[used..SLAB]) {
         Some(state.declarations())
     } else {
         None
@@ -140,12 +145,12 @@ pub fn holds<K: Lattice>(slab: &[u8]) -> Option<Declarations>
 pub fn frame_at(slab: &[u8], slot: u16) -> Option<Frame<'_>>
     ensures { λ r. ⌜ Frame-found (now (slab .entry)) slot r ⌝ }
 {
-    let at = slot as usize * 51;
-    if slot >= 512 {
+    let at = slot as usize * SLOT;
+    if slot >= FRAMES {
         return None;
     }
-    if slab.len() < at + 51 {
+    if slab.len() < at + SLOT {
         return None;
     }
-    read_frame(front_of(&slab[at..at + 51]))
+    read_frame(front_of(&slab[at..at + SLOT]))
 }

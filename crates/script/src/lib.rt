@@ -15,8 +15,22 @@ mod reading;
 mod state;
 mod writing;
 
-// The bytes of a script slab: 512 slots of 51.
+// The most frames that a script has.
+pub const FRAMES: u16 = 512;
+
+// The bytes of a slot, which holds one frame.
+pub const SLOT: usize = 51;
+
+// The bytes of a script slab: a slot for each frame.
 pub const SLAB: usize = 26112;
+
+// The most samples that all tracks hold together, and the most entries that all channels do.
+pub const SAMPLES: u32 = 2048;
+
+pub const ENTRIES: u32 = 512;
+
+// How deep blocks nest at most.
+pub const DEPTH: usize = 16;
 
 // What a script declares: its header, the samples and entries of all tracks and channels, and how many frames it has.
 #[derive(Clone, Copy)]

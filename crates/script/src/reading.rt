@@ -11,6 +11,8 @@ ghost use Rattle.script.specs.Format.{kind-in, whole-line};
 ghost use Rattle.script.specs.Promises.{Names-kind, Read-gives, Reads};
 ghost use Rattle.script.specs.Takings.{Fails, Fills, Line-slot, No-slot, Refuses, Took};
 use crate::Accepted;
+use crate::SLAB;
+use crate::SLOT;
 use crate::faults::Cause;
 use crate::faults::LineFault;
 use crate::faults::RunFault;
@@ -70,8 +72,8 @@ fn fill<K: Lattice>(lines: &[u8], slab: &mut [u8]) -> Result<State, ScriptFault>
         match split_line(rest) {
             Some((line, after)) => {
                 let (next, slot) = take_line::<K>(state, line)?;
-                let at = state.frames as usize * 51;
-                slab[at..at + 51].copy_from_slice(&slot.bytes);
+                let at = state.frames as usize * SLOT;
+                slab[at..at + SLOT].copy_from_slice(&slot.bytes);
                 state = next;
                 rest = after;
             }
@@ -96,13 +98,13 @@ fn fill<K: Lattice>(lines: &[u8], slab: &mut [u8]) -> Result<State, ScriptFault>
 fn read_into<K: Lattice>(lines: &[u8], slab: &mut [u8]) -> Result<Accepted<K>, RunFault>
     ensures { λ r. ⌜ Read-gives kind order (now (lines .entry)) (now (slab .entry)) (now (slab .exit)) r ⌝ }
 {
-    if slab.len() < 26112 {
+    if slab.len() < SLAB {
         return Err(RunFault::NoState);
     }
     match fill::<K>(lines, slab) {
         Ok(state) => {
-            let used = state.frames as usize * 51;
-            slab[used..26112].fill(0);
+            let used = state.frames as usize * SLOT;
+            slab[used..SLAB].fill(0);
             Ok(Accepted {
                 kind: PhantomData,
                 declarations: state.declarations(),

@@ -5,6 +5,7 @@ ghost use lib.ListN.{length};
 ghost use Rattle.std.specs.Options.{Cases};
 ghost use Rattle.script.specs.Promises.{Write-gives, Writes};
 ghost use Rattle.script.specs.Writings.{Put-line, Puts};
+use crate::SLOT;
 use crate::faults::RunFault;
 use crate::finding::front_of;
 use crate::finding::holds;
@@ -39,8 +40,8 @@ fn put_frames(slab: &[u8], frames: u16, out: &mut [u8]) -> Option<usize>
 {
     let mut n = 0;
     for i in 0..frames {
-        let at = i as usize * 51;
-        match put_line(front_of(&slab[at..at + 51]), out, n) {
+        let at = i as usize * SLOT;
+        match put_line(front_of(&slab[at..at + SLOT]), out, n) {
             Some(m) => {
                 n = m;
             }
