@@ -104,14 +104,15 @@ decode zero (b ∷ bs) = and-then (operation b bs) (λ n. decode n bs)
 
 -- To bytes
 
--- A number in two bytes and in four, the highest first.
+-- A number in two bytes, the highest first.
 abbrev pub two : ℕ → List ℕ
 two n = n / 256 ∷ n % 256 ∷ []
 
+-- A number in four bytes.
 abbrev pub four : ℕ → List ℕ
 four n = n / 16777216 ∷ n / 65536 % 256 ∷ n / 256 % 256 ∷ n % 256 ∷ []
 
--- The code of an operation on two numbers, and on one.
+-- The code of an operation on two numbers.
 abbrev pub binary-code : Binary → ℕ
 binary-code sum = 0x10
 binary-code difference = 0x11
@@ -122,6 +123,7 @@ binary-code equal = 0x15
 binary-code both = 0x16
 binary-code either = 0x17
 
+-- The code of an operation on one.
 abbrev pub unary-code : Unary → ℕ
 unary-code negated = 0x18
 unary-code inverted = 0x19

@@ -18,6 +18,7 @@ pub record Head : Type 0 where
   pub channels : ℕ
   pub locks : ℕ
 
+-- A frame: what a line says. Tracks and channels have a number, a level and a capacity.
 pub data Frame : Type 0 where
   header : Head → Frame
   track channel : ℕ → ℕ → ℕ → Frame
@@ -45,18 +46,22 @@ with-expression f bs =
 
 -- Frames by their kind: the bytes behind it
 
+-- A frame without an expression.
 abbrev pub plain : Frame → Option Read
 plain f = some (record { frame = f; whole = true })
 
+-- No byte behind the kind.
 abbrev pub with-nothing : Frame → List ℕ → Option Read
 with-nothing f [] = plain f
 with-nothing f (b ∷ bs) = none
 
+-- One byte.
 abbrev pub with-byte : (ℕ → Frame) → List ℕ → Option Read
 with-byte f [] = none
 with-byte f (a ∷ []) = plain (f a)
 with-byte f (a ∷ b ∷ bs) = none
 
+-- Two bytes, which are one number.
 abbrev pub with-two : (ℕ → Frame) → List ℕ → Option Read
 with-two f [] = none
 with-two f (a ∷ []) = none
@@ -75,21 +80,26 @@ with-seven f (a ∷ b ∷ c ∷ d ∷ e ∷ g ∷ []) = none
 with-seven f (a ∷ b ∷ c ∷ d ∷ e ∷ g ∷ h ∷ []) = plain (f a b c d e g h)
 with-seven f (a ∷ b ∷ c ∷ d ∷ e ∷ g ∷ h ∷ i ∷ bs) = none
 
+-- One byte, and the rest an expression.
 abbrev pub field-then : (ℕ → Expr → Frame) → List ℕ → Option Read
 field-then f [] = none
 field-then f (a ∷ bs) = with-expression (f a) bs
 
+-- Two bytes, which are a lock mask, and the rest an expression.
 abbrev pub mask-then : (ℕ → Expr → Frame) → List ℕ → Option Read
 mask-then f [] = none
 mask-then f (a ∷ []) = none
 mask-then f (a ∷ b ∷ bs) = with-expression (f (a * 256 + b)) bs
 
+-- The seven bytes of a header.
 abbrev pub header-of : ℕ → ℕ → ℕ → ℕ → ℕ → ℕ → ℕ → Frame
 header-of v k n x t c l = header (record { version = v; kind = k; threads = n; variables = x; tracks = t; channels = c; locks = l })
 
+-- The seven bytes of a track or a channel: number, level, capacity.
 abbrev pub store-of : (ℕ → ℕ → ℕ → Frame) → ℕ → ℕ → ℕ → ℕ → ℕ → ℕ → ℕ → Frame
 store-of f n a b c d e g = f n (number-4 a b c d) (e * 256 + g)
 
+-- All kinds of frames.
 abbrev pub kinds : List (Row Read)
 kinds =
     (0x01 reads with-seven header-of) ∷
@@ -116,6 +126,7 @@ frame-of (k ∷ bs) = look-up kinds k bs
 
 -- The bytes of a frame
 
+-- The bytes of each kind.
 abbrev pub frame-bytes : Frame → List ℕ
 frame-bytes (header h) = 0x01 ∷ h .version ∷ h .kind ∷ h .threads ∷ h .variables ∷ h .tracks ∷ h .channels ∷ h .locks ∷ []
 frame-bytes (track i l z) = 0x02 ∷ i ∷ (four l ++ two z)

@@ -19,7 +19,7 @@ use Rattle.codec.specs.declared.expressions.Unary.the-variants.{Negated, Inver
 use Rattle.codec.specs.declared.expressions.Op.{Op}
 use Rattle.codec.specs.declared.expressions.Op.the-variants.{Constant, Variable, Sample, Held, Two, One}
 
--- What each operation of the code stands for.
+-- What each operation on two numbers stands for.
 abbrev pub binary-of : Binary → C.Binary
 binary-of Sum = sum
 binary-of Difference = difference
@@ -30,10 +30,12 @@ binary-of Equal = equal
 binary-of Both = both
 binary-of Either = either
 
+-- What each operation on one number stands for.
 abbrev pub unary-of : Unary → C.Unary
 unary-of Negated = negated
 unary-of Inverted = inverted
 
+-- What each operation stands for.
 abbrev pub op-of : Op → C.Op
 op-of (Constant z) = constant z
 op-of (Variable x) = variable x
@@ -50,10 +52,11 @@ alone o = record { op = op-of o; bytes = 0 }
 abbrev pub plain-at : ℕ → Perhaps Taken
 plain-at k = look-up plain-operations k []
 
--- A code that can be read no further, and an operation in front of a code.
+-- A code of which nothing can be read.
 abbrev pub stopped : Decoded
 stopped = record { ops = []; whole = false }
 
+-- An operation in front of a code.
 abbrev pub joined : C.Op → Decoded → Decoded
 joined o d = record { ops = o ∷ d .ops; whole = d .whole }
 

@@ -13,18 +13,23 @@ use Rattle.codec.specs.declared.frames.Head.{Head}
 use Rattle.codec.specs.declared.frames.Frame.{Frame}
 use Rattle.codec.specs.declared.frames.Frame.the-variants.{Header, Track, Channel, Thread, ThreadEnd, Skip, Assign, Put, If, Else, EndIf, While, EndWhile, With, EndWith, Last}
 
+-- The length of an expression.
 abbrev pub fitting : ℕ → Bool
 fitting n = leb 1 n && leb n 48
 
+-- A header.
 abbrev pub head-of : Head → M.Head
 head-of h = record { version = h .version; kind = h .kind; threads = h .threads; variables = h .variables; tracks = h .tracks; channels = h .channels; locks = h .locks }
 
+-- A frame without an expression, or with one that was decoded to its end.
 abbrev pub whole : M.Frame → Read
 whole f = record { frame = f; whole = true }
 
+-- A frame with an expression, as far as that can be decoded.
 abbrev pub decoded : (Expr → M.Frame) → List ℕ → Read
 decoded f bs = record { frame = f (decode 0 bs .ops); whole = decode 0 bs .whole }
 
+-- What each frame of the code stands for; an expression is the bytes that it borrows.
 abbrev pub read-of : Frame → Read
 read-of (Header h) = whole (header (head-of h))
 read-of (Track n l c) = whole (track n l c)

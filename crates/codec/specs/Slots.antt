@@ -24,6 +24,7 @@ padded n xs = xs ++ replicate (n - length xs) 0
 abbrev pub front : Slot → List ℕ
 front s = take (s .len) (s .bytes)
 
+-- A slot is zero behind its frame.
 pub record Padded (s : Slot) : Type 0 where
   pub short : s .len ≤ 51
   pub zeros : s .bytes ≡ padded 51 (take (s .len) (s .bytes))

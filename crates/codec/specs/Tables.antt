@@ -10,6 +10,7 @@ pub record Row (A : Type 0) : Type 0 where
   pub code : ℕ
   pub says : List ℕ → Option A
 
+-- A row by its code and what that says.
 infix 60 _reads_
 abbrev pub _reads_ : {A : Type 0} → ℕ → (List ℕ → Option A) → Row A
 c reads f = record { code = c; says = f }

@@ -27,6 +27,7 @@ OpFits (unary u) = Unit {0}
 abbrev pub ExprFits : Expr → Type 0
 ExprFits e = (1 ≤ length (expr-bytes e)) × (length (expr-bytes e) ≤ 48) × All OpFits e
 
+-- The expression of a frame, if it has one, fits.
 abbrev pub FrameFits : Frame → Type 0
 FrameFits (header h) = Unit {0}
 FrameFits (track i l z) = Unit {0}

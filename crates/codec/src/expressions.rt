@@ -107,13 +107,20 @@ pub fn names_declared(code: &[u8], head: &Head) -> bool
     true
 }
 
+// The most working numbers that an expression holds at a time.
+pub const WORKING: u8 = 16;
+
 // How many numbers are held after an operation; None where it finds too few or there would be more than 16.
 fn deepen(op: Op, depth: u8) -> Option<u8>
     ensures { λ r. ⌜ perhaps (λ d. d) r ≡ deepened (op-of op) depth ⌝ }
 {
     match op {
         Op::Constant(_) | Op::Variable(_) | Op::Held(_) => {
-            if depth < 16 { Some(depth + 1) } else { None }
+            if depth < WORKING {
+                Some(depth + 1)
+            } else {
+                None
+            }
         }
         Op::Sample(_) | Op::One(_) => { if depth >= 1 { Some(depth) } else { None } }
         Op::Two(_) => { if depth >= 2 { Some(depth - 1) } else { None } }

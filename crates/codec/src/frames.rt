@@ -62,11 +62,14 @@ pub enum Frame<'a> {
     },
 }
 
-// An expression is 1 to 48 bytes.
+// The most bytes of an expression.
+const LONGEST: usize = 48;
+
+// Whether bytes are as many as an expression may have.
 fn fits(expression: &[u8]) -> bool
     ensures { λ r. ⌜ r ≡ fitting (length (now (expression .entry))) ⌝ }
 {
-    1 <= expression.len() && expression.len() <= 48
+    1 <= expression.len() && expression.len() <= LONGEST
 }
 
 // The frame that bytes are; None where the kind is unknown or the length is not the kind's.

@@ -9,10 +9,16 @@ ghost use Rattle.codec.specs.Lines.{line-bytes, pairs};
 ghost use Rattle.codec.specs.Slots.{Padded, front, no-end, perhaps};
 use crate::digits::worth;
 
+// The most bytes of a frame.
+pub const BYTES: usize = 51;
+
+// The most digits of a line: two for each byte.
+pub const DIGITS: usize = 102;
+
 // The bytes of a frame at the front of a slot, zeros behind them.
 #[derive(Clone, Copy)]
 pub struct Slot {
-    pub bytes: [u8; 51],
+    pub bytes: [u8; BYTES],
     pub len: usize,
 }
 
@@ -34,7 +40,7 @@ fn read_pairs(line: &[u8]) -> Option<Slot>
     ensures bytes { λ r. ⌜ perhaps front r ≡ pairs (now (line .entry)) ⌝ }
     ensures slot { λ r. ⌜ Cases r (Unit {0}) Padded ⌝ }
 {
-    let mut bytes = [0; 51];
+    let mut bytes = [0; BYTES];
     let mut len = 0;
     let mut rest = line;
     while let [high, low, after @ ..] = rest {
@@ -59,7 +65,7 @@ pub fn read_line(line: &[u8]) -> Option<Slot>
     ensures bytes { λ r. ⌜ perhaps front r ≡ line-bytes (some (now (line .entry))) ⌝ }
     ensures slot { λ r. ⌜ Cases r (Unit {0}) Padded ⌝ }
 {
-    if 1 <= line.len() && line.len() <= 102 {
+    if 1 <= line.len() && line.len() <= DIGITS {
         read_pairs(line)
     } else {
         None

@@ -85,3 +85,23 @@ pub impl Lattice for Bits as BitsLattice {
         a | b
     }
 }
+
+#[cfg(test)]
+mod tests {
+    use super::*;
+    use std::test::*;
+
+    #[test]
+    fn two_points() -> Result<(), Fail> {
+        check(TwoPoint::has(1) && !TwoPoint::has(2))?;
+        check(TwoPoint::flows(OPEN, 1) && TwoPoint::flows(1, 1) && !TwoPoint::flows(1, OPEN))?;
+        check_eq(TwoPoint::join(1, OPEN), 1)
+    }
+
+    #[test]
+    fn bit_sets() -> Result<(), Fail> {
+        check(Bits::has(0xFFFF) && !Bits::has(0x1_0000))?;
+        check_eq(Bits::join(5, 3), 7)?;
+        check(Bits::flows(5, 7) && Bits::flows(OPEN, 3) && !Bits::flows(5, 3))
+    }
+}

@@ -36,14 +36,17 @@ pub record Seen : Type 0 where
   pub channel-room : ℕ
   pub frames : ℕ
 
+-- Before the header nothing is declared.
 abbrev pub no-head : Head
 no-head = record { version = 0; kind = 0; threads = 0; variables = 0; tracks = 0; channels = 0; locks = 0 }
 
+-- Before the first line.
 abbrev pub nothing-seen : Seen
 nothing-seen = record { head = no-head; tracks = 0; channels = 0; threads = 0; track-room = 0; channel-room = 0; frames = 0 }
 
 -- What the tests ask
 
+-- A number within bounds.
 abbrev pub between : ℕ → ℕ → ℕ → Bool
 between low n high = leb low n && leb n high
 
@@ -53,30 +56,35 @@ head-in-range kind h =
     eqb (h .version) 1 && (eqb (h .kind) kind && (between 1 (h .threads) 8 && (between 1 (h .variables) 64 &&
     (leb (h .tracks) 8 && (between 1 (h .channels) 8 && leb (h .locks) 16)))))
 
+-- Before the header.
 abbrev pub is-start : Phase → Bool
 is-start start = true
 is-start outside = false
 is-start (inside bs) = false
 is-start ended = false
 
+-- Behind the header and outside every thread.
 abbrev pub is-outside : Phase → Bool
 is-outside start = false
 is-outside outside = true
 is-outside (inside bs) = false
 is-outside ended = false
 
+-- Inside a thread.
 abbrev pub is-inside : Phase → Bool
 is-inside start = false
 is-inside outside = false
 is-inside (inside bs) = true
 is-inside ended = false
 
+-- Behind the last frame.
 abbrev pub is-ended : Phase → Bool
 is-ended start = false
 is-ended outside = false
 is-ended (inside bs) = false
 is-ended ended = true
 
+-- The open blocks, innermost first.
 abbrev pub blocks : Phase → List Block
 blocks start = []
 blocks outside = []
@@ -90,13 +98,15 @@ has-level k outside l = k .has l
 has-level k (inside bs) l = k .has l
 has-level k ended l = k .has l
 
--- 5: the order outside threads.
+-- 5, the order outside threads: all tracks are declared.
 abbrev pub all-tracks : Phase → Seen → Bool
 all-tracks p n = is-outside p && eqb (n .tracks) (n .head .tracks)
 
+-- All channels are declared.
 abbrev pub all-channels : Phase → Seen → Bool
 all-channels p n = all-tracks p n && eqb (n .channels) (n .head .channels)
 
+-- All threads are there.
 abbrev pub all-threads : Phase → Seen → Bool
 all-threads p n = all-channels p n && eqb (n .threads) (n .head .threads)
 
@@ -104,13 +114,14 @@ all-threads p n = all-channels p n && eqb (n .threads) (n .head .threads)
 abbrev pub is-next : ℕ → ℕ → ℕ → Bool
 is-next i seen declared = eqb i seen && ltb seen declared
 
--- 5: the innermost open block is one that this frame ends.
+-- A number for each sort of block, to tell them apart.
 abbrev pub tag : Block → ℕ
 tag before-else = 0
 tag behind-else = 1
 tag in-while = 2
 tag in-with = 3
 
+-- 5: the innermost open block is of the sort that a frame ends.
 abbrev pub innermost : Block → Phase → Bool
 innermost b start = false
 innermost b outside = false
@@ -118,6 +129,7 @@ innermost b (inside []) = false
 innermost b (inside (c ∷ bs)) = eqb (tag b) (tag c)
 innermost b ended = false
 
+-- Inside a thread, with all of its blocks closed.
 abbrev pub none-open : Phase → Bool
 none-open start = false
 none-open outside = false
@@ -134,6 +146,7 @@ pub record Test : Type 0 where
   pub number : ℕ
   pub passes : Bool
 
+-- A test by its number and what it asks.
 infix 60 _asks_
 abbrev pub _asks_ : ℕ → Bool → Test
 n asks b = record { number = n; passes = b }
@@ -174,9 +187,11 @@ module _ (kind : ℕ) (k : Levels) where
 
 -- The state behind a frame without fault
 
+-- One more open block.
 abbrev pub enter : Block → Phase → Phase
 enter b p = inside (b ∷ blocks p)
 
+-- The innermost block is closed.
 abbrev pub leave : Phase → Phase
 leave start = start
 leave outside = outside
@@ -184,6 +199,7 @@ leave (inside []) = inside []
 leave (inside (b ∷ bs)) = inside bs
 leave ended = ended
 
+-- Where reading stands behind a frame.
 abbrev pub phase-after : Phase → Frame → Phase
 phase-after p (header h) = outside
 phase-after p (track i l z) = p
@@ -202,9 +218,11 @@ phase-after p (with m e) = enter in-with p
 phase-after p end-with = leave p
 phase-after p (last m) = ended
 
+-- One more frame, which declares nothing.
 abbrev pub one-more-frame : Seen → Seen
 one-more-frame n = record { head = n .head; tracks = n .tracks; channels = n .channels; threads = n .threads; track-room = n .track-room; channel-room = n .channel-room; frames = suc (n .frames) }
 
+-- What was read behind a frame.
 abbrev pub seen-after : Seen → Frame → Seen
 seen-after n (header h) = record { head = h; tracks = 0; channels = 0; threads = 0; track-room = 0; channel-room = 0; frames = suc (n .frames) }
 seen-after n (track i l z) = record { head = n .head; tracks = suc (n .tracks); channels = n .channels; threads = n .threads; track-room = n .track-room + z; channel-room = n .channel-room; frames = suc (n .frames) }
@@ -223,11 +241,12 @@ seen-after n (with m e) = one-more-frame n
 seen-after n end-with = one-more-frame n
 seen-after n (last m) = one-more-frame n
 
--- The state behind frames without fault.
+-- Where reading stands behind frames without fault.
 abbrev pub phase-through : Phase → List Frame → Phase
 phase-through p [] = p
 phase-through p (f ∷ fs) = phase-through (phase-after p f) fs
 
+-- What was read behind frames.
 abbrev pub through : Seen → List Frame → Seen
 through n [] = n
 through n (f ∷ fs) = through (seen-after n f) fs
@@ -239,11 +258,12 @@ pub data Verdict : Type 0 where
   refused : ℕ → ℕ → Verdict
   accepted : List Frame → Verdict
 
--- A line: its fault, 1 or 2, or its frame.
+-- A line of bytes: the fault 2, or its frame.
 abbrev pub or-fault-2 : Option Read → ℕ ⊎ Read
 or-fault-2 none = inl 2
 or-fault-2 (some r) = inr r
 
+-- A line: the fault 1 or 2, or its frame.
 abbrev pub whole-line : Option (List ℕ) → ℕ ⊎ Read
 whole-line none = inl 1
 whole-line (some bs) = or-fault-2 (frame-of bs)
@@ -269,7 +289,7 @@ module _ (kind : ℕ) (k : Levels) where
   unfoldable pub read-script : List ℕ → Verdict
   read-script bytes = read-lines start nothing-seen (read-text bytes)
 
--- The kind of levels that a text names: that of the header that its first line is.
+-- The kind of levels that a frame names: a header does.
 abbrev pub kind-in : Frame → Option ℕ
 kind-in (header h) = some (h .kind)
 kind-in (track i l z) = none
@@ -288,10 +308,12 @@ kind-in (with m e) = none
 kind-in end-with = none
 kind-in (last m) = none
 
+-- The kind that the first of these lines names.
 abbrev pub first-kind : List (ℕ ⊎ Read) → Option ℕ
 first-kind [] = none
 first-kind (inl number ∷ ls) = none
 first-kind (inr r ∷ ls) = kind-in (r .frame)
 
+-- The kind that a text names.
 abbrev pub named-kind : List ℕ → Option ℕ
 named-kind bytes = first-kind (read-text bytes)

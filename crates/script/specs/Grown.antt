@@ -17,20 +17,25 @@ pub record Grown : Type 0 where
   pub code : Code
   pub endings : List Ending
 
+-- Nothing declared yet.
 abbrev pub no-script : Script
 no-script = record { kind = 0; variables = 0; locks = 0; track-levels = []; track-sizes = []; channel-levels = []; channel-sizes = []; codes = [] }
 
+-- Outside a thread.
 abbrev pub no-code : Script → Grown
 no-code sc = record { script = sc; code = done; endings = [] }
 
+-- The ending of the innermost open block.
 abbrev pub now-ends : List Ending → Ending
 now-ends [] = record { other = done; next = done }
 now-ends (e ∷ es) = e
 
+-- Those of the blocks around it.
 abbrev pub later-ends : List Ending → List Ending
 later-ends [] = []
 later-ends (e ∷ es) = es
 
+-- The same place with other code and endings.
 abbrev pub with-code : Grown → Code → List Ending → Grown
 with-code g c es = record { script = g .script; code = c; endings = es }
 
@@ -53,9 +58,11 @@ grow (with m e) g = with-code g (lock m e (g .code) (now-ends (g .endings) .next
 grow end-with g = with-code g done (record { other = done; next = g .code } ∷ g .endings)
 grow (last m) g = no-code no-script
 
+-- What stands from the first of these frames on.
 abbrev pub grown : List Frame → Grown
 grown [] = no-code no-script
 grown (f ∷ fs) = grow f (grown fs)
 
+-- The script of frames.
 abbrev pub script-of : List Frame → Script
 script-of fs = grown fs .script

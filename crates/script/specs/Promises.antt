@@ -50,6 +50,7 @@ Read-as (accepted fs) slab end r = (end ≡ slab-of fs ++ drop 26112 slab) × Ca
 abbrev pub Too-short : {A : Type 0} → List ℕ → List ℕ → Result A RunFault → Type 0
 Too-short slab end r = (end ≡ slab) × Cases r (λ _. ⊥) (λ e. e ≡ NoState)
 
+-- By the slab's length, and then by the verdict on the lines.
 abbrev pub Read-gives : {K : Type 0} → ℕ → Levels → List ℕ → List ℕ → List ℕ → Result (Accepted K) RunFault → Type 0
 Read-gives kind k lines slab end r = by-test (ltb (length slab) 26112) (Too-short slab end r) (Read-as (read-script kind k lines) slab end r)
 
@@ -139,6 +140,7 @@ pub record Not-written (kind : ℕ) (k : Levels) (slab out end : List ℕ) (e : 
   pub zeros : end ≡ replicate (length out) 0
   pub lacks : (fs : List M.Frame) → Holds kind k slab fs → length out < length (text-of fs)
 
+-- Written, or not.
 abbrev pub Write-gives : ℕ → Levels → List ℕ → List ℕ → List ℕ → Result ℕ RunFault → Type 0
 Write-gives kind k slab out end r = Cases r (Wrote kind k slab out end) (Not-written kind k slab out end)
 

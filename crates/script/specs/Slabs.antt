@@ -38,10 +38,11 @@ pub record Declares (fs : List Frame) (d : Declarations) : Type 0 where
   pub entries-are : d .entries ≡ through nothing-seen fs .channel-room
   pub frames-are : d .frames ≡ length fs
 
--- Slot i of a slab, and the frame at its front; none past slot 511 and past the slab.
+-- Slot i of a slab.
 abbrev pub slot-at : List ℕ → ℕ → List ℕ
 slot-at slab i = take 51 (drop (i * 51) slab)
 
+-- The frame at the front of slot i; none past slot 511 and past the slab.
 abbrev pub frame-in : List ℕ → ℕ → Perhaps Read
 frame-in slab i = cond (ltb i 512 && leb (i * 51 + 51) (length slab)) (frame-of (take (length-at (slot-at slab i)) (slot-at slab i))) none
 

@@ -24,6 +24,7 @@ use Rattle.script.specs.declared.state.State.{State}
 use Rattle.script.specs.Refusals.{cause-number}
 use Rattle.codec.specs.Shapes.{head-of}
 
+-- An open block.
 abbrev pub block-of : Block → F.Block
 block-of BeforeElse = before-else
 block-of BehindElse = behind-else
@@ -35,15 +36,18 @@ abbrev pub held-blocks : ℕ → List Block → List F.Block
 held-blocks zero bs = []
 held-blocks (suc n) bs = block-of (getD bs n BeforeElse) ∷ held-blocks n bs
 
+-- Where reading stands, by its stage and the open blocks.
 abbrev pub phase : Stage → List F.Block → Phase
 phase Start bs = start
 phase Outside bs = outside
 phase Inside bs = inside bs
 phase Ended bs = ended
 
+-- Where reading stands.
 abbrev pub phase-of : State → Phase
 phase-of s = phase (s .stage) (held-blocks (s .depth) (s .opened))
 
+-- What was read.
 abbrev pub seen-of : State → Seen
 seen-of s = record {
   head = head-of (s .head);

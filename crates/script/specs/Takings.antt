@@ -24,6 +24,7 @@ pub record Line-slot (line : List ℕ) (s : Slot) : Type 0 where
   pub bytes : line-bytes (some line) ≡ some (front s)
   pub zeros : Padded s
 
+-- A line that is no frame's, at its number.
 pub record No-slot (line : List ℕ) (number : ℕ) (e : LineFault) : Type 0 where
   pub none-is : line-bytes (some line) ≡ none
   pub at : e .line ≡ number
@@ -43,12 +44,14 @@ module _ (kind : ℕ) (k : Levels) where
     pub few : s .frames < 512
     pub holds : slot .bytes ≡ padded 51 (frame-bytes (read .frame))
 
+  -- A line with a fault, and the fault that tells it.
   pub record Refuses (s : State) (l : ℕ ⊎ Read) (e : ScriptFault) : Type 0 where
     pub number : ℕ
     pub is : line-fault s l ≡ some number
     pub tells : script-refusal e ≡ refusal number (suc (s .frames))
 
 module _ (kind : ℕ) (k : Levels) where
+  -- Lines that are accepted: their frames are in the first slots, and the bytes past the slots are as they were.
   pub record Fills (lines slab end : List ℕ) (t : State) : Type 0 where
     pub frames : List Frame
     pub verdict : read-script kind k lines ≡ accepted frames
@@ -58,6 +61,7 @@ module _ (kind : ℕ) (k : Levels) where
     pub slots : take (t .frames * 51) end ≡ slots-of frames
     pub past : drop 26112 end ≡ drop 26112 slab
 
+  -- Lines that are refused, and the fault that tells it.
   pub record Fails (lines : List ℕ) (e : ScriptFault) : Type 0 where
     pub number : ℕ
     pub line : ℕ

@@ -25,6 +25,7 @@ flatten (branch e p q c) r = if e ∷ flatten p (else ∷ flatten q (end-if ∷ 
 flatten (loop e b c) r = while e ∷ flatten b (end-while ∷ flatten c r)
 flatten (lock m e b c) r = with m e ∷ flatten b (end-with ∷ flatten c r)
 
+-- The frames of thread i, with those that follow it.
 abbrev pub frames-of-thread : ℕ → Code → List Frame → List Frame
 frames-of-thread i c r = thread i ∷ flatten c (thread-end ∷ r)
 
@@ -39,6 +40,7 @@ store-frames f i [] zs r = r
 store-frames f i (l ∷ ls) [] r = r
 store-frames f i (l ∷ ls) (z ∷ zs) r = f i l z ∷ store-frames f (suc i) ls zs r
 
+-- The header of a script.
 abbrev pub head-of : Script → Head
 head-of sc = record {
   version = 1;
@@ -76,10 +78,12 @@ Valid h d (branch e p q c) = T (ltb d 16) × Sound h e × Valid h (suc d) p × V
 Valid h d (loop e b c) = T (ltb d 16) × Sound h e × Valid h (suc d) b × Valid h d c
 Valid h d (lock m e b c) = T (ltb d 16) × T (ltb m (2 ^ h .locks)) × Sound h e × Valid h (suc d) b × Valid h d c
 
+-- A sum.
 abbrev pub total : List ℕ → ℕ
 total [] = 0
 total (x ∷ xs) = x + total xs
 
+-- A script within all bounds, under a kind of levels and the number of that kind.
 pub record ValidScript (kind : ℕ) (k : Levels) (sc : Script) : Type 0 where
   pub head : T (head-in-range kind (head-of sc))
   pub track-sizes : length (sc .track-sizes) ≡ length (sc .track-levels)

@@ -64,8 +64,8 @@ pub enum RunFault {
 pub impl From<LineFault> for ScriptFault as ScriptFromLine {
     ghost converts = { λ fault r. (r ≡ InLine fault) × (script-refusal r ≡ line-refusal fault) };
 
-    fn from(fault: LineFault) -> ScriptFault {
-        ScriptFault::InLine(fault)
+    fn from(fault: LineFault) -> Self {
+        Self::InLine(fault)
     }
 }
 
@@ -73,8 +73,8 @@ pub impl From<LineFault> for ScriptFault as ScriptFromLine {
 pub impl From<ScriptFault> for RunFault as RunFromScript {
     ghost converts = { λ fault r. (r ≡ InScript fault) × (run-refusal r ≡ script-refusal fault) };
 
-    fn from(fault: ScriptFault) -> RunFault {
-        RunFault::InScript(fault)
+    fn from(fault: ScriptFault) -> Self {
+        Self::InScript(fault)
     }
 }
 
@@ -82,8 +82,8 @@ pub impl From<ScriptFault> for RunFault as RunFromScript {
 pub impl From<LineFault> for RunFault as RunFromLine {
     ghost converts = { λ fault r. (r ≡ InScript (InLine fault)) × (run-refusal r ≡ line-refusal fault) };
 
-    fn from(fault: LineFault) -> RunFault {
-        RunFault::from(ScriptFault::from(fault))
+    fn from(fault: LineFault) -> Self {
+        Self::from(ScriptFault::from(fault))
     }
 }
 

@@ -6,14 +6,21 @@ ghost use Rattle.std.specs.Options.{Cases};
 ghost use Rattle.codec.specs.Expressions.{expr-bytes, decode, op-bytes};
 ghost use Rattle.script.specs.Findings.{all-zero, length-at};
 ghost use Rattle.script.specs.Nexts.{Next, NoNext};
+ghost use Rattle.script.specs.Promises.{Frame-found, Holds-gives};
 ghost use Rattle.codec.specs.Operations.{op-of};
+use crate::Declarations;
+use crate::FRAMES;
+use crate::SLAB;
+use crate::SLOT;
 use crate::state::State;
 use codec::expressions::Op;
 use codec::expressions::first_op;
+use codec::frames::Frame;
 use codec::frames::read_frame;
 use lattice::Lattice;
 
-pub(crate) fn is_zero(bytes: &[u8]) -> bool
+// Whether there is nothing but zeros.
+fn is_zero(bytes: &[u8]) -> bool
     ensures { λ r. ⌜ r ≡ all-zero (now (bytes .entry)) ⌝ }
 {
     for b in bytes {
@@ -24,6 +31,7 @@ pub(crate) fn is_zero(bytes: &[u8]) -> bool
     true
 }
 
+// How many bytes an operation has.
 fn op_length(op: Op) -> usize
     ensures length { λ r. ⌜ r ≡ length (op-bytes (op-of op)) ⌝ }
     ensures short { λ r. ⌜ r ≤ 5 ⌝ }
@@ -80,17 +88,17 @@ pub(crate) fn front_of(slot: &[u8]) -> &[u8]
     ensures short { λ r. ⌜ length (now r) ≤ 51 ⌝ }
 {
     let len = frame_length(slot);
-    if len < 51 { &slot[0..len] } else { slot }
+    if len < SLOT { &slot[0..len] } else { slot }
 }
 
 // The state behind the frame in a slot; None where it holds none that passes its tests, with zeros behind it.
-pub(crate) fn next_slot<K: Lattice>(state: State, slot: &[u8]) -> Option<State>
+fn next_slot<K: Lattice>(state: State, slot: &[u8]) -> Option<State>
     requires long { ⌜ length (now slot) ≡ 51 ⌝ }
     requires deep { ⌜ state .depth ≤ 16 ⌝ }
     ensures { λ r. ⌜ Cases r (NoNext kind order state (now (slot .entry))) (Next kind order state (now (slot .entry))) ⌝ }
 {
     let len = frame_length(slot);
-    if len > 51 {
+    if len > SLOT {
         return None;
     }
     if !is_zero(&slot[len..]) {
@@ -103,4 +111,46 @@ pub(crate) fn next_slot<K: Lattice>(state: State, slot: &[u8]) -> Option<State>
         },
         None => None,
     }
+}
+
+// What the script declares that a slab of any bytes holds; None where it holds no script of the kind K.
+pub fn holds<K: Lattice>(slab: &[u8]) -> Option<Declarations>
+    ensures { λ r. ⌜ Holds-gives kind order (now (slab .entry)) r ⌝ }
+{
+    if slab.len() < SLAB {
+        return None;
+    }
+    let mut state = State::at_first();
+    while !state.ended() {
+        if state.frames >= FRAMES {
+            return None;
+        }
+        let at = state.frames as usize * SLOT;
+        match next_slot::<K>(state, &slab[at..at + SLOT]) {
+            Some(next) => {
+                state = next;
+            }
+            None => return None,
+        }
+    }
+    let used = state.frames as usize * SLOT;
+    if is_zero(&slab[used..SLAB]) {
+        Some(state.declarations())
+    } else {
+        None
+    }
+}
+
+// The frame in a slot of a slab, counted from 0; None where there is no such slot or it begins with no frame.
+pub fn frame_at(slab: &[u8], slot: u16) -> Option<Frame<'_>>
+    ensures { λ r. ⌜ Frame-found (now (slab .entry)) slot r ⌝ }
+{
+    let at = slot as usize * SLOT;
+    if slot >= FRAMES {
+        return None;
+    }
+    if slab.len() < at + SLOT {
+        return None;
+    }
+    read_frame(front_of(&slab[at..at + SLOT]))
 }

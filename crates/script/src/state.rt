@@ -11,7 +11,12 @@ ghost use Rattle.script.specs.Format.{all-channels, all-threads, all-tracks, e
 ghost use Rattle.script.specs.Format.Block.{before-else, behind-else};
 ghost use Rattle.script.specs.Format.Phase.{start};
 ghost use Rattle.script.specs.Refusals.{cause-number};
-ghost use Rattle.script.specs.Stages.{Entered, Judged, Passes, block-of, expression-asks, numbered, phase-of, seen-of};
+ghost use Rattle.script.specs.Stages.{Entered, Judged, Passes, block-of, declaring, expression-asks, numbered, phase-of, seen-of};
+use crate::DEPTH;
+use crate::Declarations;
+use crate::ENTRIES;
+use crate::FRAMES;
+use crate::SAMPLES;
 use crate::faults::Cause;
 use codec::expressions::leaves_one_number;
 use codec::expressions::names_declared;
@@ -49,7 +54,7 @@ pub(crate) struct State {
     pub samples: u16,
     pub entries: u16,
     pub frames: u16,
-    pub opened: [Block; 16],
+    pub opened: [Block; DEPTH],
     pub depth: usize,
 }
 
@@ -120,7 +125,7 @@ impl State {
             samples: 0,
             entries: 0,
             frames: 0,
-            opened: [Block::BeforeElse; 16],
+            opened: [Block::BeforeElse; DEPTH],
             depth: 0,
         }
     }
@@ -259,7 +264,7 @@ impl State {
         ensures { λ r. ⌜ Passes (numbered 3 (leb (self .samples + capacity) 2048) ∷ numbered 4 (has-level order (phase-of self) level) ∷ numbered 5 (is-outside (phase-of self) && is-next number (self .tracks) (self .head .tracks)) ∷ []) self (m-track number level capacity) r ⌝ }
     {
         let samples = self.samples as u32 + capacity as u32;
-        if samples > 2048 {
+        if samples > SAMPLES {
             return Err(Cause::Range);
         }
         if !self.allows::<K>(level) {
@@ -280,7 +285,7 @@ impl State {
         ensures { λ r. ⌜ Passes (numbered 3 (leb (self .entries + capacity) 512) ∷ numbered 4 (has-level order (phase-of self) level) ∷ numbered 5 (all-tracks (phase-of self) (seen-of self) && is-next number (self .channels) (self .head .channels)) ∷ []) self (m-channel number level capacity) r ⌝ }
     {
         let entries = self.entries as u32 + capacity as u32;
-        if entries > 512 {
+        if entries > ENTRIES {
             return Err(Cause::Range);
         }
         if !self.allows::<K>(level) {
@@ -352,7 +357,7 @@ impl State {
         match self.expression_fault(named, code) {
             Some(cause) => Err(cause),
             None => {
-                if self.depth >= 16 {
+                if self.depth >= DEPTH {
                     return Err(Cause::Limit);
                 }
                 let mut opened = self.opened;
@@ -458,12 +463,24 @@ impl State {
         ensures { λ r. ⌜ Judged kind order self (read-of (frame .entry)) r ⌝ }
     {
         let next = self.behind::<K>(frame)?;
-        if self.frames >= 512 {
+        if self.frames >= FRAMES {
             return Err(Cause::Limit);
         }
         Ok(State {
             frames: self.frames + 1,
             ..next
         })
+    }
+
+    // What was declared so far.
+    pub(crate) fn declarations(self) -> Declarations
+        ensures { λ r. ⌜ r ≡ declaring self ⌝ }
+    {
+        Declarations {
+            head: self.head,
+            samples: self.samples,
+            entries: self.entries,
+            frames: self.frames,
+        }
     }
 }

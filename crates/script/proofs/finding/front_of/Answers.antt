@@ -3,6 +3,6 @@ use native.Mathlib.Omega.{arith}
 use Rattle.std.proofs.shelf.Lists.{take-all}
 use Rattle.script.proofs.finding.front_of.Needs as need
 
-pub returns-else-len-lt51 : need.returns-else-len-lt51
-returns-else-len-lt51 c =
-    record { bytes = sym (take-all _ (c .args .slot .now) (omega (arith, c .frame-length-len .ensures, c .if-len-lt51 .left, c .pre))); short = omega (arith, c .pre) }
+pub returns-else-len-lt-SLOT : need.returns-else-len-lt-SLOT
+returns-else-len-lt-SLOT c =
+    record { bytes = sym (take-all _ (c .args .slot .now) (omega (arith, c .frame-length-len .ensures, c .if-len-lt-SLOT .left, c .pre))); short = omega (arith, c .pre) }

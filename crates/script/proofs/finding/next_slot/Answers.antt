@@ -12,9 +12,9 @@ use Rattle.script.specs.Findings.{all-zero, length-at}
 use Rattle.script.proofs.SlotTakings.{too-long, not-zero, no-frame, faulted, next-is}
 use Rattle.script.proofs.finding.next_slot.Needs as need
 
-pub returns-then-len-gt51 : need.returns-then-len-gt51
-returns-then-len-gt51 g c =
-    let long : 51 < length-at (c .args .slot .now) = omega (arith, c .frame-length-len .ensures, c .if-len-gt51 .taken) in
+pub returns-then-len-gt-SLOT : need.returns-then-len-gt-SLOT
+returns-then-len-gt-SLOT g c =
+    let long : 51 < length-at (c .args .slot .now) = omega (arith, c .frame-length-len .ensures, c .if-len-gt-SLOT .taken) in
     too-long (g .K·Lattice .kind) (g .K·Lattice .order) (c .args .state) (c .args .slot .now) long
 
 pub returns-then-not-is-zero : need.returns-then-not-is-zero
@@ -27,7 +27,7 @@ returns-in-Ok g c =
     let s = c .args .slot .now in
     let e = c .frame-length-len .ensures in
     let j = c .in-Ok .ensures tt in
-    let short : length-at s ≤ 51 = omega (arith, e, c .if-len-gt51 .left) in
+    let short : length-at s ≤ 51 = omega (arith, e, c .if-len-gt-SLOT .left) in
     let small : Bytes s = all-from-getD (λ b. b < 256) s 0 (λ i h. c .typed .slot i .fits) in
     next-is (g .K·Lattice .kind) (g .K·Lattice .order) (c .args .state) (c .args .slot .now) (read-of (c .in-Some .frame)) (c .in-Ok .next) (c .pre .long) short small
     (c .if-not-is-zero .ensures tt ∙ ap (λ (m : ℕ). all-zero (take (length s - m) (drop m s))) e)

@@ -13,12 +13,12 @@ returns-in-Break-next g c =
     let p = err-from-errBy (c .from-residual .result) (c .from-residual .ensures .1) in
     rw (p .1, p .2) (own-fault (g .K·Lattice .kind) (g .K·Lattice .order) (c .args .self) (read-of (c .args .frame)) _ (c .in-Break-next .ensures tt))
 
-pub returns-then-self-ge512 : need.returns-then-self-ge512
-returns-then-self-ge512 g c =
-    one-too-many (g .K·Lattice .kind) (g .K·Lattice .order) (c .args .self) (read-of (c .args .frame)) (c .in-Continue-next .ensures tt .0) (c .if-self-ge512 .taken)
+pub returns-then-self-ge-FRAMES : need.returns-then-self-ge-FRAMES
+returns-then-self-ge-FRAMES g c =
+    one-too-many (g .K·Lattice .kind) (g .K·Lattice .order) (c .args .self) (read-of (c .args .frame)) (c .in-Continue-next .ensures tt .0) (c .if-self-ge-FRAMES .taken)
 
 pub returns : need.returns
 returns g c =
-    let few : c .args .self .frames < 512 = omega (arith, c .if-self-ge512 .left) in
+    let few : c .args .self .frames < 512 = omega (arith, c .if-self-ge-FRAMES .left) in
     let m = c .in-Continue-next .ensures tt in
     (no-fault (g .K·Lattice .kind) (g .K·Lattice .order) (c .args .self) (read-of (c .args .frame)) (m .0) few, counted (c .args .self) (c .in-Continue-next .next) (read-of (c .args .frame) .frame) (m .1))

@@ -11,8 +11,8 @@ use borrow.Author.Tests.{lt-ltb}
 use Rattle.script.proofs.OpenBlocks.{opening-is}
 use Rattle.script.proofs.state.State.opening.Needs as need
 
-pub returns-else-self-ge16 : need.returns-else-self-ge16
-returns-else-self-ge16 c =
+pub returns-else-self-ge-DEPTH : need.returns-else-self-ge-DEPTH
+returns-else-self-ge-DEPTH c =
     let d : Decoded = decode 0 (c .args .code .now) in
     let t₆ : Bool = c .args .named && declared (head-of (c .args .self .head)) (d .ops) in
     let t₇ : Bool = d .whole && leaves-one 0 (d .ops) in
