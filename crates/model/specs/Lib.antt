@@ -17,5 +17,6 @@ pub mod Runs
 pub mod Table
 pub mod Differences
 pub mod Examples
+pub mod Listing
 pub mod Small
 pub mod Shortcuts

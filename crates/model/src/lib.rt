@@ -19,6 +19,7 @@ ghost use Rattle.model.specs.Table.{As-shown};
 ghost use Rattle.model.specs.Runs.{Calls-reach};
 ghost use Rattle.model.specs.Differences.{Differs};
 ghost use Rattle.model.specs.Examples.{Examples};
+ghost use Rattle.model.specs.Listing.{Runs-as-listed};
 ghost use Rattle.model.specs.Shortcuts.{Shortcuts-leak};
 
 // Who gets the next turn: told which threads are ready, a scheduler answers a thread or a rest.
@@ -131,6 +132,13 @@ pub fn examples_hold() -> u8
 // Three shortcuts, and a scheduler that does not keep its law, each leak on a small script; the machine itself does not.
 pub fn shortcuts_leak() -> u8
     ensures { λ _. ⌜ Shortcuts-leak ⌝ }
+{
+    0
+}
+
+// A whole run under round robin, call by call, with its answers.
+pub fn runs_as_listed() -> u8
+    ensures { λ _. ⌜ Runs-as-listed ⌝ }
 {
     0
 }
