@@ -38,3 +38,7 @@ Blind k sc Did m n =
     (reader : ℕ) → T (k .has reader) → (xs ys : List Asked) → Trace Did m xs → Trace Did n ys →
     let seen : ℕ → Bool = λ l. k .flows l reader in
     Alike (calls-of (kept-asked seen sc xs)) (calls-of (kept-asked seen sc ys)) → answers-of (kept-asked seen sc xs) ≡ answers-of (kept-asked seen sc ys)
+
+-- Two traces whose calls are alike have the same answers.
+abbrev pub Answered-alike : {Memory : Type 0} (Did : Memory → Call → Answer → Memory → Type 0) → Memory → Memory → Type 0
+Answered-alike Did m n = (xs ys : List Asked) → Trace Did m xs → Trace Did n ys → Alike (calls-of xs) (calls-of ys) → answers-of xs ≡ answers-of ys

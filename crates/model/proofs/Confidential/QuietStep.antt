@@ -26,6 +26,7 @@ use Rattle.model.proofs.Confidential.Quiet.{Way, base, Within, Above, Quiet, a
 use Rattle.model.proofs.Confidential.Quiet.Above.{at-base, in-br, in-lk}
 use Rattle.model.proofs.Confidential.Quiet.Quiet.{runs, waits, waits-last}
 use Rattle.model.proofs.Confidential.Alike.{Safe}
+use Rattle.model.proofs.Puts.{put-threads}
 
 pub data After (v : View) (y : Way) (l : ℕ) (w : Bool) (i : ℕ) (s u : State) (n : ℕ) : Type 0 where
   closed : n ≡ 0 → u ≡ set-thread s i (at-code (y .next) (y .rest)) → After v y l w i s u n
@@ -115,10 +116,6 @@ module _ (v : View) {y : Way} {l : ℕ} {w : Bool} (hl : Hid v l) (s : State) (i
     unfolding do-put
     put-quiet h e = cond-ind (Agree v s) (v .k .flows (context os) (channel-level v h)) _ _ (λ t. channel-quiet h _ t) (λ t. agree-same v s)
 
-    put-threads : (h : ℕ) (e : Expr) → do-put (v .k) (v .sc) s i h e os .threads ≡ s .threads
-    unfolding do-put
-    put-threads h e = cond-ind (λ (u : State). u .threads ≡ s .threads) (v .k .flows (context os) (channel-level v h)) _ _ (λ t. refl) (λ t. refl)
-
     run-step : (c : Code) (n : ℕ) → Within y c → suc n ≡ duration c + m → After v y l w i s (step-at (v .k) (v .sc) s i c running os) n
     unfolding step-at
     run-step done n h e = done-step n a e
@@ -128,7 +125,7 @@ module _ (v : View) {y : Way} {l : ℕ} {w : Bool} (hl : Hid v l) (s : State) (i
         goes (set-cell s x _) (at-code c os)
         (cell-quiet x _ t (hid-right v (level-had v s (hs .cells) z) (guard-had v x (s .threads) 0 (λ j. hs .guards j .had) (had-zero v)) (guard-hid x t)))
         refl refl (runs a (within-assign x z c h) (omega arith))
-    run-step (put x z c) n h e = goes (do-put (v .k) (v .sc) s i x z os) (at-code c os) (put-quiet x z) (put-threads x z) refl (runs a (within-put x z c h) (omega arith))
+    run-step (put x z c) n h e = goes (do-put (v .k) (v .sc) s i x z os) (at-code c os) (put-quiet x z) (put-threads (v .k) (v .sc) s i x z os) refl (runs a (within-put x z c h) (omega arith))
     run-step (branch z p q c) n h e =
         let hp = within-branch-p z p q c h in
         let hq = within-branch-q z p q c h in
