@@ -24,7 +24,7 @@ without a b = bitXor a (bitAnd a b)
 
 -- Functions of expressions and programs. What the publication calls defines is `assigns`, and its needs is `needs`.
 
--- FV(e) meets V, for the variables v and the inputs s that V holds.
+-- An expression names something that may carry variety: a variable of v, or an input of s. The publication writes it FV(e) ∩ V ≠ ∅.
 abbrev pub meets : (ℕ → Bool) → (ℕ → Bool) → Expr → Bool
 meets v s [] = false
 meets v s (constant z ∷ e) = meets v s e
@@ -77,8 +77,9 @@ either-needs pe pu = bitOr (needs pe) (needs pu)
 
 -- States, inputs, outputs
 
--- (V, W, L, w). V is a test on variables and a test on inputs, which no command defines; W counts; L is a mask of locks.
--- w is written with its last letter first, and true is ⊤.
+-- A state (V, W, L, w). V is what may carry variety, here a test on variables and one (`secret`) on inputs, which no command defines. W counts, for each
+-- variable, the unmerged branches that define it on such a value. L is the mask of the locks that they reserve. w is the branching context of the thread,
+-- written with its last letter first; true is ⊤.
 pub record Q : Type 0 where
   pub V : ℕ → Bool
   pub secret : ℕ → Bool
@@ -100,12 +101,12 @@ pub data Input : Type 0 where
 pub data Output : Type 0 where
   ok no default : Output
 
--- w is in {⊥}*.
+-- A word has no ⊤: the branching context is clear.
 abbrev pub all-bottom : List Bool → Bool
 all-bottom [] = true
 all-bottom (b ∷ w) = not b && all-bottom w
 
--- FV(e) meets V.
+-- An expression carries variety in a state.
 abbrev pub carries : Q → Expr → Bool
 carries q e = meets (q .V) (q .secret) e
 
@@ -117,7 +118,7 @@ with-V q v = record { V = v; secret = q .secret; W = q .W; L = q .L; w = q .w }
 abbrev pub with-w : Q → List Bool → Q
 with-w q w = record { V = q .V; secret = q .secret; W = q .W; L = q .L; w = w }
 
--- The condition carries variety in a context that does not: (V ∪ v, W ⊎ v, L ∪ l, w⊤).
+-- A branch on a condition that carries variety, in a clear context: (V ∪ v, W ⊎ v, L ∪ l, w⊤).
 abbrev pub entering : Q → (ℕ → Bool) → ℕ → Q
 entering q v l = record {
   V = λ x. q .V x || v x;
@@ -127,7 +128,7 @@ entering q v l = record {
   w = true ∷ q .w;
 }
 
--- And its end: (V, W \ v, L \ l, w).
+-- The merge of such a branch: (V, W \ v, L \ l, w).
 abbrev pub leaving : Q → (ℕ → Bool) → ℕ → List Bool → Q
 leaving q v l w = record {
   V = q .V;

@@ -22,7 +22,7 @@ abbrev pub wordless : Option (Output × Q) → Option (Output × Q)
 wordless none = none
 wordless (some r) = some (r .0, with-w (r .1) [])
 
--- What is not read.
+-- No answer depends on how many ⊥ a word has.
 pub record Bottoms-are-not-read : Type 0 where
   -- Any other input than a merge is answered by whether the word has a ⊤.
   pub others : (q : Q) (u : List Bool) (x : Input) → is-merge x ≡ false → all-bottom (q .w) ≡ all-bottom u → wordless (react q x) ≡ wordless (react (with-w q u) x)

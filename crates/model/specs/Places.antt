@@ -156,9 +156,8 @@ abbrev pub closes : ℕ → Move
 closes zero = on
 closes (suc n) = stays
 
--- How one turn of the machine moves a thread by its code, pace and blocks.
 module _ (k : Levels) (sc : Script) where
-  -- How the next turn moves a thread.
+  -- How the next turn of a thread moves it, by its code, pace and open blocks.
   abbrev pub move : State → Code → Pace → List Open → Move
   move s c (idling n) [] = stays
   move s c (idling n) (in-branch l w p q next ∷ os) = closes n

@@ -90,7 +90,7 @@ abbrev pub hears : Pool → ℕ → List Input → Option (List Output × Pool)
 hears p i [] = some ([], p)
 hears p i (x ∷ xs) = go-on p i (react (extract p i) x) (λ r. hears r i xs)
 
--- Whether the automaton lets on.
+-- Whether the automaton lets a thread go on.
 abbrev pub is-some : Option (List Output × Pool) → Bool
 is-some none = false
 is-some (some r) = true
@@ -106,7 +106,7 @@ departs q (branch e p t c) running = not (fixed-time p && fixed-time t) && (carr
 departs q (loop e b c) running = carries q e
 departs q (lock m e b c) running = false
 
--- A with whose expression carries variety, which no rule of the automaton lets on.
+-- A with whose expression carries variety: no rule of the automaton lets it go on.
 abbrev pub never-syncs : Q → Code → Pace → Bool
 never-syncs q c (idling n) = false
 never-syncs q done running = false

@@ -32,7 +32,7 @@ abbrev pub kept-asked : (ℕ → Bool) → Script → List Asked → List Asked
 kept-asked seen sc [] = []
 kept-asked seen sc (a ∷ xs) = cond (left-out seen sc (a .call)) (kept-asked seen sc xs) (a ∷ kept-asked seen sc xs)
 
--- No reader learns from one trace what it would not have learnt from the other.
+-- Two traces whose kept calls are alike for a reader have the same kept answers: what was left out is not learnt.
 abbrev pub Blind : (k : Levels) (sc : Script) {Memory : Type 0} (Did : Memory → Call → Answer → Memory → Type 0) → Memory → Memory → Type 0
 Blind k sc Did m n =
     (reader : ℕ) → T (k .has reader) → (xs ys : List Asked) → Trace Did m xs → Trace Did n ys →
