@@ -17,7 +17,12 @@ use Rattle.report.specs.declared.intake.Kind.the-variants.{TwoPoint, Bits}
 abbrev pub Short-enough : List ℕ → Result (Unit {0}) RunFault → Type 0
 Short-enough input r = Cases r (λ _. length input ≤ 16384) (λ e. (16384 < length input) × (run-refusal e ≡ refusal 8 0))
 
+-- The number of each kind of levels that the program has.
+abbrev pub kind-number : Kind → ℕ
+kind-number TwoPoint = 1
+kind-number Bits = 2
+
 -- The kind of levels to read under, by the kind that the header names; a kind that the program has not is read as kind 01, and refused there.
-abbrev pub kind-for : Perhaps ℕ → Kind
-kind-for none = TwoPoint
-kind-for (some n) = cond (eqb n 2) Bits TwoPoint
+abbrev pub kind-for : Perhaps ℕ → ℕ
+kind-for none = 1
+kind-for (some n) = cond (eqb n 2) 2 1

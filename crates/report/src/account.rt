@@ -1,7 +1,7 @@
 // The account of a script that was read: what it declares, frame by frame, and what writing it back gave.
 use crate::words::Level;
 use crate::words::LevelDisplay;
-use crate::words::by;
+use crate::words::layer_name;
 use crate::words::meaning;
 use codec::frames::Frame;
 use lattice::Lattice;
@@ -110,13 +110,10 @@ pub fn account<K: Lattice>(
 
 pub fn refused(rt: &LibcRuntime, refusal: Refusal) -> Result<(), AnyError> {
     let number = refusal.number;
+    let layer = layer_name(refusal.layer);
     match refusal.line {
-        Some(line) => println!(
-            rt,
-            "Refused: number {number} at line {line}, by {}.",
-            by(refusal.layer)
-        )?,
-        None => println!(rt, "Refused: number {number}, by {}.", by(refusal.layer))?,
+        Some(line) => println!(rt, "Refused: number {number} at line {line}, layer {layer}.")?,
+        None => println!(rt, "Refused: number {number}, layer {layer}.")?,
     }
     println!(rt, "Meaning: {}.", meaning(number))?;
     Ok(())

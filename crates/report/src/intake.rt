@@ -1,7 +1,7 @@
 // The input before it is read: its length, and the kind of levels that its header names.
 ghost use mathlib.Core.Path.{_≡_};
 ghost use Rattle.script.specs.Format.{named-kind};
-ghost use Rattle.report.specs.Intake.{Short-enough, kind-for};
+ghost use Rattle.report.specs.Intake.{Short-enough, kind-for, kind-number};
 use script::faults::Cause;
 use script::faults::RunFault;
 use script::faults::RunFromScript;
@@ -32,7 +32,7 @@ pub fn short_enough(input: &[u8]) -> Result<(), RunFault>
 
 // The kind to read a text under. One that the program has not gets its refusal from reading under any other.
 pub fn kind_for_text(text: &[u8]) -> Kind
-    ensures { λ r. ⌜ r ≡ kind-for (named-kind (now (text .entry))) ⌝ }
+    ensures { λ r. ⌜ kind-number r ≡ kind-for (named-kind (now (text .entry))) ⌝ }
 {
     match kind_named(text) {
         Some(2) => Kind::Bits,

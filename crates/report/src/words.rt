@@ -50,11 +50,11 @@ pub fn meaning(number: u8) -> &'static str {
     }
 }
 
-// Who refused.
-pub fn by(layer: Layer) -> &'static str {
+// The layer that refused.
+pub fn layer_name(layer: Layer) -> &'static str {
     match layer {
-        Layer::Line => "the reading of the line",
-        Layer::Script => "the reading of the script",
-        Layer::Run => "the call",
+        Layer::Line => "line",
+        Layer::Script => "script",
+        Layer::Run => "run",
     }
 }

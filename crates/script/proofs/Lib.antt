@@ -5,7 +5,6 @@ pub mod Scripts
 pub mod Complete
 pub mod Text
 pub mod Stepping
-pub mod Examples
 pub mod Judging
 pub mod Masks
 pub mod OpenBlocks

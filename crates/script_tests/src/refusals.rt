@@ -53,10 +53,7 @@ fn expect<K: Lattice>(heap: Global, text: &[u8], number: u8, line: u16) -> Resul
 }
 
 // Under kind 01, and under kind 02: that is the sixth digit of a header.
-fn expect_both(heap: Global, front: &[u8], case: Case) -> Result<(), Fail> {
-    let (tail, number, line) = case;
-    let mut text = front.to_vec(heap)?;
-    text.extend_from_slice(tail.as_bytes())?;
+fn expect_both(heap: Global, mut text: Vec<u8>, number: u8, line: u16) -> Result<(), Fail> {
     expect::<TwoPoint>(heap, &text, number, line)?;
     if text.starts_with(b"0101") {
         if let Some(kind) = text.get_mut(5) {
@@ -67,8 +64,10 @@ fn expect_both(heap: Global, front: &[u8], case: Case) -> Result<(), Fail> {
 }
 
 fn expect_all(heap: Global, front: &[u8], cases: &[Case]) -> Result<(), Fail> {
-    for case in cases {
-        expect_both(heap, front, *case).note(case.0)?;
+    for (tail, number, line) in cases {
+        let mut text = front.to_vec(heap)?;
+        text.extend_from_slice(tail.as_bytes())?;
+        expect_both(heap, text, *number, *line).note(*tail)?;
     }
     Ok(())
 }
@@ -403,10 +402,10 @@ fn skips(heap: Global, count: usize, last: &[u8]) -> Result<Vec<u8>, Fail> {
 #[test]
 fn frames(rt: LibcRuntime) -> Result<(), Fail> {
     let heap = rt.alloc();
-    expect::<TwoPoint>(heap, &skips(heap, 506, b"21\n7F0200\n")?, 0, 0)?;
-    expect::<TwoPoint>(heap, &skips(heap, 507, b"21\n7F0201\n")?, 8, 513)?;
-    expect::<TwoPoint>(heap, &skips(heap, 507, b"21\n7F0200\n")?, 5, 513)?;
-    expect::<TwoPoint>(heap, &skips(heap, 508, b"3\n")?, 1, 513)?;
-    expect::<TwoPoint>(heap, &skips(heap, 508, b"30\n")?, 8, 513)?;
-    expect::<TwoPoint>(heap, &skips(heap, 508, b"")?, 5, 513)
+    expect_both(heap, skips(heap, 506, b"21\n7F0200\n")?, 0, 0)?;
+    expect_both(heap, skips(heap, 507, b"21\n7F0201\n")?, 8, 513)?;
+    expect_both(heap, skips(heap, 507, b"21\n7F0200\n")?, 5, 513)?;
+    expect_both(heap, skips(heap, 508, b"3\n")?, 1, 513)?;
+    expect_both(heap, skips(heap, 508, b"30\n")?, 8, 513)?;
+    expect_both(heap, skips(heap, 508, b"")?, 5, 513)
 }
