@@ -1,14 +1,7 @@
 // The model of the monitor and its theorems. Each function's contract is a theorem: without its proof the crate is refused.
-ghost use mathlib.Core.Path.{_≡_};
-ghost use mathlib.Core.Bool.{Bool, false};
-ghost use mathlib.Core.List.{List};
-ghost use mathlib.Core.Option.{Option as Perhaps, some};
-ghost use Prim.Native.Nat.{ℕ};
-ghost use lib.Dec.{T as Holds};
-ghost use lib.ListN.{getD};
 ghost use Rattle.lattice.specs.Levels.{Lawful};
 ghost use Rattle.lattice.specs.Orders.{two-point};
-ghost use Rattle.model.specs.Schedulers.{Rests, Schedulers-obey};
+ghost use Rattle.model.specs.Schedulers.{Meaning, Obedient, Rests, Schedulers-obey};
 ghost use Rattle.model.specs.Secrecy.{Every-run-is-secret, Every-view-is-blind};
 ghost use Rattle.model.specs.Inspection.{Every-typed-run-is-unaltered};
 ghost use Rattle.model.specs.Places.{Places-agree};
@@ -25,10 +18,10 @@ ghost use Rattle.model.specs.Shortcuts.{Shortcuts-leak};
 // Who gets the next turn: told which threads are ready, a scheduler answers a thread or a rest.
 pub trait Scheduler {
     // Its answer and its next state, from its state and the set of ready threads alone.
-    ghost meaning: { Self → List Bool → Perhaps ℕ × Self };
+    ghost meaning: { Meaning Self };
 
     // The thread that it answers is ready.
-    law picks_ready: { (g : Self) (rs : List Bool) (i : ℕ) → meaning g rs .0 ≡ some i → Holds (getD rs i false) };
+    law obedient: { Obedient meaning };
 }
 
 // Where no thread is ready a scheduler rests: this follows from its law.

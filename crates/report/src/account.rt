@@ -112,7 +112,10 @@ pub fn refused(rt: &LibcRuntime, refusal: Refusal) -> Result<(), AnyError> {
     let number = refusal.number;
     let layer = layer_name(refusal.layer);
     match refusal.line {
-        Some(line) => println!(rt, "Refused: number {number} at line {line}, layer {layer}.")?,
+        Some(line) => println!(
+            rt,
+            "Refused: number {number} at line {line}, layer {layer}."
+        )?,
         None => println!(rt, "Refused: number {number}, layer {layer}.")?,
     }
     println!(rt, "Meaning: {}.", meaning(number))?;
