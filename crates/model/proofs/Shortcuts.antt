@@ -1,8 +1,8 @@
 -- The shortcuts leak, by computation.
 use mathlib.Core.Path.{_≡_, refl, ap}
-use mathlib.Core.Bool.{true, cond}
+use mathlib.Core.Bool.{Bool, true, false, _||_, cond}
 use mathlib.Core.List.{List, [], _∷_}
-use Prim.Native.Nat.{ℕ}
+use Prim.Native.Nat.{ℕ, suc}
 use native.Mathlib.Omega.{arith}
 use lib.IntN.{pos}
 use lib.ListN.{length, getD}
@@ -12,7 +12,8 @@ use Rattle.model.specs.Calls.{Answer, no-entry, perform}
 use Rattle.model.specs.Calls.Call.{feed, advance-by, count}
 use Rattle.model.specs.Calls.Answer.{holds, gave, counted, found, stands, refused}
 use Rattle.model.specs.Secrecy.{Secret}
-use Rattle.model.specs.Shortcuts.{Leaks, told-by-level, raising-less, told-by-lock, reserving-less, told-by-turn, closing-early, told-by-loop, stubborn, Shortcuts-leak}
+use Rattle.model.specs.Shortcuts.{Leaks, told-by-level, raising-less, told-by-lock, reserving-less, told-by-turn, closing-early, told-by-loop, any-true, stubborn, Shortcuts-leak}
+use Rattle.model.specs.Schedulers.{Rests}
 
 raising-leaks : Leaks told-by-level (raising-less told-by-level) (0 ∷ 0 ∷ 0 ∷ 0 ∷ [])
 unfolding step-at do-put
@@ -38,6 +39,13 @@ closing-leaks = record {
   tells-not = refl;
 }
 
+none-true : (rs : List Bool) → ((i : ℕ) → getD rs i false ≡ false) → any-true rs ≡ false
+none-true [] h = refl
+none-true (b ∷ rs) h = rw (h 0) (none-true rs (λ i. h (suc i)))
+
+stubborn-rests : Rests stubborn
+stubborn-rests g rs h = rw (none-true rs h)
+
 -- How many entries the second answer counts.
 second : List Answer → ℕ
 second [] = 9
@@ -56,4 +64,4 @@ stubborn-leaks secret =
     omega arith
 
 pub shortcuts : Shortcuts-leak
-shortcuts = record { raising = raising-leaks; reserving = reserving-leaks; closing = closing-leaks; obeying = stubborn-leaks }
+shortcuts = record { raising = raising-leaks; reserving = reserving-leaks; closing = closing-leaks; resting = stubborn-rests; obeying = stubborn-leaks }

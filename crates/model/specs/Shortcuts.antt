@@ -2,10 +2,10 @@
 -- its closed track, which the machine itself does not.
 use Prim.Native.Nat.{ℕ}
 use mathlib.Core.Path.{_≡_}
-use mathlib.Core.Bool.{not, cond}
+use mathlib.Core.Bool.{Bool, false, _||_, not, cond}
 use mathlib.Core.List.{List, [], _∷_, map}
 use mathlib.Core.Logic.{_≢_}
-use mathlib.Core.Option.{some}
+use mathlib.Core.Option.{none, some}
 use lib.IntN.{ℤ, pos}
 use lib.ListN.{length, getD}
 use Rattle.std.specs.shelf.Lists.{All}
@@ -19,7 +19,7 @@ use Rattle.model.specs.Values.{is-zero}
 use Rattle.model.specs.Threads.{Open, Pace, Thread, ended, context}
 use Rattle.model.specs.Threads.Open.{in-branch, in-loop, in-lock}
 use Rattle.model.specs.Threads.Pace.{running, idling}
-use Rattle.model.specs.Schedulers.{Meaning, pick-list}
+use Rattle.model.specs.Schedulers.{Meaning, Rests, pick-list}
 use Rattle.model.specs.Machine.{Entry, unused, State, set-thread, set-cells, set-track, level-of, value-of, status, raise, close-branch, step-at, step, Rules, rules, advance}
 use Rattle.model.specs.Calls.{begin}
 use Rattle.model.specs.Secrecy.{Secret}
@@ -111,18 +111,24 @@ pub record Leaks (sc : Script) (changed : Rules) (picks : List ℕ) : Type 0 whe
   pub tells : shows changed sc picks (pos 0) ≢ shows changed sc picks (pos 1)
   pub tells-not : shows (rules two-point sc) sc picks (pos 0) ≡ shows (rules two-point sc) sc picks (pos 1)
 
--- A scheduler that always names thread 0, ready or not.
-abbrev pub stubborn : Meaning (Unit {0})
-stubborn g rs = (some 0, g)
+-- Whether any of these is true.
+abbrev pub any-true : List Bool → Bool
+any-true [] = false
+any-true (b ∷ bs) = b || any-true bs
 
--- A while on how many samples the closed track holds, and then a put: the machine bars it, and this scheduler goes on regardless.
+-- A scheduler that names thread 0, ready or not, wherever some thread is ready.
+abbrev pub stubborn : Meaning (Unit {0})
+stubborn g rs = (cond (any-true rs) (some 0) none, g)
+
+-- A while on how many samples the closed track holds, and then a put: the machine bars it, and this scheduler goes on regardless. Another thread is ready.
 abbrev pub told-by-loop : Script
-told-by-loop = small (loop (held 0 ∷ []) (skip done) (put 0 one done) ∷ [])
+told-by-loop = small (loop (held 0 ∷ []) (skip done) (put 0 one done) ∷ skip done ∷ [])
 
 -- Each shortcut leaks.
 pub record Shortcuts-leak : Type 0 where
   pub raising : Leaks told-by-level (raising-less told-by-level) (0 ∷ 0 ∷ 0 ∷ 0 ∷ [])
   pub reserving : Leaks told-by-lock (reserving-less told-by-lock) (0 ∷ 1 ∷ 1 ∷ [])
   pub closing : Leaks told-by-turn (closing-early told-by-turn) (0 ∷ 0 ∷ 0 ∷ 0 ∷ 0 ∷ [])
-  -- And the scheduler's law is needed: secrecy is false of one that does not keep it.
+  -- And the scheduler's law is needed: secrecy is false of one that does not keep it, though it rests where no thread is ready.
+  pub resting : Rests stubborn
   pub obeying : Secret two-point told-by-loop stubborn → ⊥
