@@ -13,7 +13,7 @@ use Rattle.model.specs.Calls.Call.{feed, advance-by, count}
 use Rattle.model.specs.Calls.Answer.{holds, gave, counted, found, stands, refused}
 use Rattle.model.specs.Secrecy.{Secret}
 use Rattle.model.specs.Shortcuts.{Leaks, told-by-level, raising-less, told-by-lock, reserving-less, told-by-turn, closing-early, told-by-loop, any-true, stubborn, Shortcuts-leak}
-use Rattle.model.specs.Schedulers.{Rests}
+use Rattle.scheduler.specs.Turns.{Rests}
 
 raising-leaks : Leaks told-by-level (raising-less told-by-level) (0 ∷ 0 ∷ 0 ∷ 0 ∷ [])
 unfolding step-at do-put

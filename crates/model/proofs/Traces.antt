@@ -6,7 +6,7 @@ use Prim.Native.Nat.{ℕ}
 use Rattle.lattice.specs.Levels.{Levels, Lawful}
 use Rattle.script.specs.Code.{Script}
 use Rattle.model.specs.Machine.{State}
-use Rattle.model.specs.Schedulers.{Meaning, Obedient}
+use Rattle.scheduler.specs.Turns.{Meaning, Obedient}
 use Rattle.model.specs.Calls.{answers, Call, Answer, begin, perform}
 use Rattle.model.specs.Levels.{opened, Levelled}
 use Rattle.model.specs.Secrecy.{left-out, kept, kept-answers}

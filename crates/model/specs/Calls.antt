@@ -10,7 +10,7 @@ use Rattle.lattice.specs.Levels.{Levels}
 use Rattle.script.specs.Code.{Script}
 use Rattle.model.specs.Values.{blank}
 use Rattle.model.specs.Threads.{at-code}
-use Rattle.model.specs.Schedulers.{Meaning}
+use Rattle.scheduler.specs.Turns.{Meaning}
 use Rattle.model.specs.Machine.{Entry, unused, State, set-track, Status, status, rules, most-turns, advance}
 
 -- A call: feed a sample to a track, advance by so many turns, read a channel's count or one of its entries, ask how a thread stands.

@@ -11,7 +11,7 @@ use Rattle.script.specs.Code.{Code, Script}
 use Rattle.script.specs.Code.Code.{done, skip, assign, put, branch, loop, lock}
 use Rattle.model.specs.Levels.{is-open, all-had, Levelled, opened}
 use Rattle.model.specs.Values.{joined}
-use Rattle.model.specs.Schedulers.{Meaning}
+use Rattle.scheduler.specs.Turns.{Meaning}
 use Rattle.model.specs.Calls.{Call, begin, answers}
 
 -- A typing gives each variable a level.

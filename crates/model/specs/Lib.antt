@@ -2,7 +2,6 @@ pub mod Levels
 pub mod Stretches
 pub mod Values
 pub mod Threads
-pub mod Schedulers
 pub mod Machine
 pub mod Calls
 pub mod Secrecy

@@ -7,7 +7,7 @@ use Rattle.lattice.specs.Orders.{two-point}
 use Rattle.codec.specs.Expressions.Op.{variable}
 use Rattle.script.specs.Code.{Script}
 use Rattle.script.specs.Code.Code.{done, assign, put, branch}
-use Rattle.model.specs.Schedulers.{round-robin}
+use Rattle.scheduler.specs.Schedulers.{round-robin}
 use Rattle.model.specs.Calls.{Call, Answer, begin, answers}
 use Rattle.model.specs.Calls.Call.{feed, advance-by, count, entry}
 use Rattle.model.specs.Calls.Answer.{holds, gave, counted, found}

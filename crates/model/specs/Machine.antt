@@ -17,7 +17,7 @@ use Rattle.model.specs.Values.{Cell, blank, is-zero, top, eval, joined}
 use Rattle.model.specs.Threads.{Open, Pace, Thread, ended, context, guard, against, clash, at-code, at-idle}
 use Rattle.model.specs.Threads.Open.{in-branch, in-loop, in-lock}
 use Rattle.model.specs.Threads.Pace.{running, idling}
-use Rattle.model.specs.Schedulers.{Meaning}
+use Rattle.scheduler.specs.Turns.{Meaning}
 
 -- The state
 

@@ -2,7 +2,7 @@
 use mathlib.Core.List.{List}
 use Rattle.lattice.specs.Orders.{two-point}
 use Rattle.script.specs.Code.{Script}
-use Rattle.model.specs.Schedulers.{Meaning}
+use Rattle.scheduler.specs.Turns.{Meaning}
 use Rattle.model.specs.Calls.{Call, begin, after}
 use Rattle.model.specs.Follows.{Reached}
 

@@ -8,7 +8,7 @@ use lib.ListN.{length, getD}
 use Rattle.lattice.specs.Levels.{Levels, Lawful}
 use Rattle.script.specs.Code.{Script}
 use Rattle.model.specs.Levels.{Levelled}
-use Rattle.model.specs.Schedulers.{Meaning}
+use Rattle.scheduler.specs.Turns.{Meaning}
 use Rattle.model.specs.Machine.{State}
 use Rattle.model.specs.Calls.{Call, Alike, Answer, begin, perform}
 use Rattle.model.specs.Calls.Call.{feed, advance-by, count, entry, ask}

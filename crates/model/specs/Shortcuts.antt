@@ -19,7 +19,8 @@ use Rattle.model.specs.Values.{is-zero}
 use Rattle.model.specs.Threads.{Open, Pace, Thread, ended, context}
 use Rattle.model.specs.Threads.Open.{in-branch, in-loop, in-lock}
 use Rattle.model.specs.Threads.Pace.{running, idling}
-use Rattle.model.specs.Schedulers.{Meaning, Rests, pick-list}
+use Rattle.scheduler.specs.Turns.{Meaning, Rests}
+use Rattle.scheduler.specs.Schedulers.{pick-list}
 use Rattle.model.specs.Machine.{Entry, unused, State, set-thread, set-cells, set-track, level-of, value-of, status, raise, close-branch, step-at, step, Rules, rules, advance}
 use Rattle.model.specs.Calls.{begin}
 use Rattle.model.specs.Secrecy.{Secret}

@@ -1,7 +1,6 @@
 // The model of the monitor and its theorems. Each function's contract is a theorem: without its proof the crate is refused.
 ghost use Rattle.lattice.specs.Levels.{Lawful};
 ghost use Rattle.lattice.specs.Orders.{two-point};
-ghost use Rattle.model.specs.Schedulers.{Meaning, Obedient, Rests, Schedulers-obey};
 ghost use Rattle.model.specs.Secrecy.{Every-run-is-secret, Every-view-is-blind};
 ghost use Rattle.model.specs.Inspection.{Every-typed-run-is-unaltered};
 ghost use Rattle.model.specs.Places.{Places-agree};
@@ -14,29 +13,7 @@ ghost use Rattle.model.specs.Differences.{Differs};
 ghost use Rattle.model.specs.Examples.{Examples};
 ghost use Rattle.model.specs.Listing.{Runs-as-listed};
 ghost use Rattle.model.specs.Shortcuts.{Shortcuts-leak};
-
-// Who gets the next turn: told which threads are ready, a scheduler answers a thread or a rest.
-pub trait Scheduler {
-    // Its answer and its next state, from its state and the set of ready threads alone.
-    ghost meaning: { Meaning Self };
-
-    // The thread that it answers is ready.
-    law obedient: { Obedient meaning };
-}
-
-// Where no thread is ready a scheduler rests: this follows from its law.
-pub fn rests_when_none_is_ready<S: Scheduler>() -> u8
-    ensures { λ _. ⌜ Rests (S·Scheduler .meaning) ⌝ }
-{
-    0
-}
-
-// Round robin and the pick list, as they are defined, keep the law.
-pub fn schedulers_obey() -> u8
-    ensures { λ _. ⌜ Schedulers-obey ⌝ }
-{
-    0
-}
+use scheduler::Scheduler;
 
 // What a reader is answered does not depend on what may not flow to that reader: every kind of levels, every script, this scheduler.
 pub fn secrecy_stands<S: Scheduler>() -> u8

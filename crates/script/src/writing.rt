@@ -1,7 +1,7 @@
 // Writing the frames of a slab as lines.
 ghost use mathlib.Core.Path.{_≡_};
 ghost use Prim.Native.Nat.{_+_, _≤_, _<_};
-ghost use lib.ListN.{length};
+ghost use lib.ListN.{length, replicate};
 ghost use Rattle.std.specs.Options.{Cases};
 ghost use Rattle.script.specs.Promises.{Write-gives, Writes};
 ghost use Rattle.script.specs.Writings.{Put-line, Puts};
@@ -51,6 +51,13 @@ fn put_frames(slab: &[u8], frames: u16, out: &mut [u8]) -> Option<usize>
     Some(n)
 }
 
+// Zeroes an output that was refused.
+fn wipe(out: &mut [u8])
+    ensures { λ _. ⌜ now (out .exit) ≡ replicate (length (now (out .entry))) 0 ⌝ }
+{
+    out.fill(0);
+}
+
 // Writes the script that a slab holds; zeros where it holds none or there is no room.
 fn write_from<K: Lattice>(slab: &[u8], out: &mut [u8]) -> Result<usize, RunFault>
     ensures { λ r. ⌜ Write-gives kind order (now (slab .entry)) (now (out .entry)) (now (out .exit)) r ⌝ }
@@ -59,12 +66,12 @@ fn write_from<K: Lattice>(slab: &[u8], out: &mut [u8]) -> Result<usize, RunFault
         Some(declared) => match put_frames(slab, declared.frames, out) {
             Some(n) => Ok(n),
             None => {
-                out.fill(0);
+                wipe(out);
                 Err(RunFault::NoState)
             }
         },
         None => {
-            out.fill(0);
+            wipe(out);
             Err(RunFault::NoState)
         }
     }

@@ -10,7 +10,7 @@ use Rattle.script.specs.Code.{Code, Script}
 use Rattle.model.specs.Values.{Cell, blank}
 use Rattle.model.specs.Threads.{ended, at-code}
 use Rattle.model.specs.Machine.{State}
-use Rattle.model.specs.Schedulers.{Meaning, Obedient}
+use Rattle.scheduler.specs.Turns.{Meaning, Obedient}
 use Rattle.model.specs.Calls.{Call, Answer, begin, perform}
 use Rattle.model.specs.Levels.{Levelled}
 use Rattle.model.specs.Secrecy.{Bounded, IsView, Every-view-is-blind, Secret, left-out, kept, kept-answers}

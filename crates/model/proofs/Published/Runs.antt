@@ -7,7 +7,7 @@ use mathlib.Core.Option.{Option, none, some}
 use lib.Dec.{eqb, ltb}
 use lib.ListN.{getD, length}
 use Rattle.model.specs.Machine.{State, ready-set, all-finished, take-turn, advance, rules, most-turns}
-use Rattle.model.specs.Schedulers.{Meaning, Obedient}
+use Rattle.scheduler.specs.Turns.{Meaning, Obedient}
 use Rattle.script.specs.Code.{Script}
 use Rattle.model.specs.Calls.{Call, Answer, begin, perform, after}
 use Rattle.model.specs.Calls.Call.{feed, advance-by, count, entry, ask}

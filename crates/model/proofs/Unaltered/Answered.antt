@@ -9,7 +9,7 @@ use lib.ListN.{length, getD, length-map}
 use Rattle.lattice.specs.Levels.{Levels}
 use Rattle.script.specs.Code.{Script}
 use Rattle.model.specs.Machine.{State, advance, take-turn, ready-set, all-finished, rules, most-turns}
-use Rattle.model.specs.Schedulers.{Meaning}
+use Rattle.scheduler.specs.Turns.{Meaning}
 use Rattle.model.specs.Calls.{Call, Answer, perform, answers}
 use Rattle.model.specs.Calls.Call.{feed, advance-by, count, entry, ask}
 use Rattle.model.specs.Calls.Answer.{gave, refused}

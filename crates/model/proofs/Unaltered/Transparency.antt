@@ -3,7 +3,7 @@ use mathlib.Core.Path.{ap, _∙_}
 use Rattle.lattice.specs.Levels.{Levels, Lawful}
 use Rattle.script.specs.Code.{Script}
 use Rattle.model.specs.Machine.{State}
-use Rattle.model.specs.Schedulers.{Meaning}
+use Rattle.scheduler.specs.Turns.{Meaning}
 use Rattle.model.specs.Calls.{begin, answers}
 use Rattle.model.specs.Levels.{Levelled, opened}
 use Rattle.model.specs.Inspection.{Transparent}

@@ -28,6 +28,6 @@ returns-in-None-put-frames g c =
     let same : length (c .put-frames .last .out) ≡ length (c .args .out .now) = search needs in
     record {
       is = refl;
-      zeros = c .fill .ensures .after (λ y e. e) ∙ ap (λ n. replicate n 0) same;
+      zeros = c .wipe .ensures ∙ ap (λ n. replicate n 0) same;
       lacks = λ fs v. subst (λ (gs : List Frame). length (c .args .out .now) < length (text-of gs)) (sym (h .only fs v)) p;
     }
