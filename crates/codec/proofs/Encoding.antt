@@ -1,25 +1,25 @@
 -- Frames and their bytes: each has one of the other.
-use Prim.Native.Nat.{ℕ, zero, suc, _+_, _*_, _/_, _%_, _^_, _≤_, _<_}
+use Prim.Native.Nat.{ℕ, zero, suc, _+_, _*_, _/_, _%_, _^_, _<_}
 use native.Mathlib.Omega.{arith}
 use mathlib.Core.Path.{_≡_, refl, sym, _∙_, ap, subst}
 use mathlib.Core.Bool.{Bool, true, false, _&&_, cond}
-use mathlib.Core.List.{List, [], _∷_, _++_, map}
+use mathlib.Core.List.{List, [], _∷_, _++_}
 use mathlib.Core.Option.{Option, none, some}
-use lib.Dec.{T, eqb, leb, ltb}
+use lib.Dec.{eqb, leb}
 use lib.ListN.{length, drop}
 use mir.Syntax.{w32}
-use mir.Val.{toZ, ofZ, SFits}
+use mir.Val.{toZ, ofZ}
 use lib.IntN.{ℤ}
 use Rattle.std.specs.shelf.Lists.{All}
 use Rattle.std.proofs.shelf.Signed.{ofZ-toZ, toZ-ofZ}
 use Rattle.std.proofs.shelf.Tests.{eqb-true, le-leb, leb-true, and-parts}
 use mir.Facts.{sfits-toZ, fits-bits}
 use Rattle.codec.specs.Tables.{Row, look-up}
-use Rattle.codec.specs.Expressions.{Op, Expr, Binary, Unary, Taken, takes, with-four, with-one, alone, operations, operation, Decoded, and-then, decode, number-4, four, two, op-bytes, expr-bytes}
+use Rattle.codec.specs.Expressions.{Op, Expr, Taken, takes, with-four, with-one, alone, operations, operation, Decoded, and-then, decode, number-4, four, two, op-bytes, expr-bytes}
 use Rattle.codec.specs.Expressions.Op.{constant, variable, sample, held, binary, unary}
 use Rattle.codec.specs.Expressions.Binary.{sum, difference, product, quotient, less, equal, both, either}
 use Rattle.codec.specs.Expressions.Unary.{negated, inverted}
-use Rattle.codec.specs.Frames.{Head, Frame, Read, frame-bytes, with-expression, plain, with-nothing, with-byte, with-two, with-seven, field-then, mask-then, header-of, store-of, kinds, frame-of}
+use Rattle.codec.specs.Frames.{Frame, Read, frame-bytes, with-expression, plain, with-nothing, with-byte, with-two, with-seven, field-then, mask-then, header-of, store-of, kinds, frame-of}
 use Rattle.codec.specs.Writable.{Bytes, OpFits, ExprFits, FrameFits}
 use Rattle.codec.specs.Frames.Frame.{header, track, channel, thread, thread-end, if, else, end-if, while, end-while, with, end-with, last}
 

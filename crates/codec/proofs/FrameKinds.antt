@@ -1,16 +1,16 @@
 -- The frame of bytes, as the code asks for it: by kind, length and places.
 use mathlib.Core.Path.{_≡_, refl, sym, ap, _∙_}
-use mathlib.Core.Bool.{Bool, true, false, _&&_, cond}
+use mathlib.Core.Bool.{Bool, true, false, cond}
 use mathlib.Core.List.{List, [], _∷_}
 use mathlib.Core.Option.{Option, none, some}
-use Prim.Native.Nat.{ℕ, zero, suc, _+_, _*_, _-_, _≤_, _<_}
+use Prim.Native.Nat.{ℕ, suc, _+_, _*_, _-_}
 use native.Mathlib.Omega.{arith}
 use borrow.Author.Tests.{ne-eqb, le-leb, eqb-true}
 use lib.Dec.{eqb, leb}
 use lib.ListN.{length, getD, drop}
-use Rattle.codec.specs.Expressions.{Expr, decode, number-4}
-use Rattle.codec.specs.Frames.{Frame, Read, plain, header-of, store-of, frame-of, with-nothing, with-byte, with-two, with-seven, field-then, mask-then, with-expression}
-use Rattle.codec.specs.Frames.Frame.{header, track, channel, thread, thread-end, skip, assign, put, if, else, end-if, while, end-while, with, end-with, last}
+use Rattle.codec.specs.Expressions.{Expr, number-4}
+use Rattle.codec.specs.Frames.{Frame, Read, header-of, store-of, frame-of, with-nothing, with-byte, with-two, with-seven, field-then, mask-then, with-expression}
+use Rattle.codec.specs.Frames.Frame.{track, channel, thread, thread-end, skip, assign, put, if, else, end-if, while, end-while, with, end-with, last}
 use Rattle.codec.specs.Shapes.{fitting, decoded, whole}
 
 abbrev two-at : List ℕ → ℕ → ℕ

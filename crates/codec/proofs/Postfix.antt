@@ -2,22 +2,19 @@
 use mathlib.Core.Path.{_≡_, refl, sym, ap, _∙_}
 use mathlib.Core.Bool.{Bool, true, false, _&&_, cond}
 use mathlib.Core.List.{List, [], _∷_}
-use mathlib.Core.Logic.{⊎-elim}
 use mathlib.Core.Option.{Option, none, some}
 use Prim.Native.Nat.{ℕ, zero, suc, _+_, _*_, _-_, _≤_, _<_}
 use native.Mathlib.Omega.{arith}
 use borrow.Author.Tests.{ne-eqb, eqb-true}
-use lib.Dec.{eqb, leb, ltb}
+use lib.Dec.{eqb}
 use lib.ListN.{length, getD, take, drop, length-drop}
 use mir.Syntax.{w32}
 use mir.Val.{toZ}
 use Rattle.std.proofs.shelf.Lists.{take-rest}
-use Rattle.std.proofs.shelf.Tests.{cases-eq}
 use Rattle.codec.specs.Expressions.{Op, Decoded, Taken, takes, with-four, with-one, number-4, operation, and-then, decode}
-use Rattle.codec.specs.Expressions.Op.{constant, variable, sample, held, binary, unary}
-use Rattle.codec.specs.Frames.{Head}
-use Rattle.codec.specs.Sound.{declared, depth-after, has-room, leaves-one, op-declared}
-use Rattle.codec.specs.Operations.{First, deepened, joined, plain-at, stopped}
+use Rattle.codec.specs.Expressions.Op.{constant, variable, sample, held}
+use Rattle.codec.specs.Sound.{leaves-one}
+use Rattle.codec.specs.Operations.{First, joined, plain-at, stopped}
 
 skipped : (n : ℕ) (bs : List ℕ) → decode n bs ≡ decode 0 (drop n bs)
 unfolding decode

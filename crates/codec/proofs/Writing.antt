@@ -1,5 +1,5 @@
 -- Frames written as lines are read back.
-use Prim.Native.Nat.{ℕ, zero, suc, _+_, _-_, _*_, _/_, _%_, _≤_, _<_}
+use Prim.Native.Nat.{ℕ, _+_, _*_, _/_, _%_, _≤_, _<_}
 use native.Mathlib.Omega.{arith}
 use mathlib.Core.Path.{_≡_, refl, sym, _∙_, ap, ap₂, subst}
 use mathlib.Core.Bool.{Bool, true, false, _&&_, cond}
@@ -8,7 +8,7 @@ use mathlib.Core.Option.{Option, none, some, Option·map}
 use lib.Dec.{eqb, leb, ltb}
 use lib.ListN.{length}
 use Rattle.std.specs.shelf.Lists.{All}
-use Rattle.std.proofs.shelf.Tests.{lt-ltb, le-ltb, le-leb, lt-leb, ne-eqb, cases-lt, ltb-true, ltb-false, eqb-true, leb-true, and-parts}
+use Rattle.std.proofs.shelf.Tests.{lt-ltb, le-leb, ne-eqb, ltb-true, eqb-true, leb-true, and-parts}
 use Rattle.std.proofs.shelf.Ways.{tells}
 use Rattle.codec.specs.Lines.{worth, digit, in-front, lines, pairs, line-bytes, split, digits, written}
 

@@ -1,12 +1,10 @@
 -- A frame of the code as the definition's, and the frame of bytes by their kind and length.
-use mathlib.Core.Bool.{Bool, true, _&&_, cond}
+use mathlib.Core.Bool.{Bool, true, _&&_}
 use mathlib.Core.List.{List}
-use mathlib.Core.Option.{Option as Perhaps, none, some}
-use Prim.Native.Nat.{ℕ, _+_, _*_, _-_}
-use lib.Dec.{eqb, leb}
-use lib.ListN.{length, getD, drop}
+use Prim.Native.Nat.{ℕ}
+use lib.Dec.{leb}
 use Rattle.codec.specs.Expressions.{Expr, decode}
-use Rattle.codec.specs.Frames.{Read, plain, header-of}
+use Rattle.codec.specs.Frames.{Read}
 use Rattle.codec.specs.Frames as M
 use Rattle.codec.specs.Frames.Frame.{header, track, channel, thread, thread-end, skip, assign, put, if, else, end-if, while, end-while, with, end-with, last}
 use Rattle.codec.specs.declared.frames.Head.{Head}

@@ -3,7 +3,7 @@ ghost use mathlib.Core.List.{_++_, _∷_};
 ghost use mathlib.Core.Option.{some};
 ghost use mathlib.Core.Path.{_≡_};
 ghost use Prim.Native.Nat.{_≤_};
-ghost use lib.ListN.{length, take};
+ghost use lib.ListN.{length};
 ghost use Rattle.std.specs.Options.{Cases};
 ghost use Rattle.codec.specs.Lines.{line-bytes, pairs};
 ghost use Rattle.codec.specs.Slots.{Padded, front, no-end, perhaps};

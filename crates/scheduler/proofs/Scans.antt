@@ -1,10 +1,10 @@
 -- Round robin's scan, a thread at a time: i threads were looked at, the last of them t, and u is the next.
 use Prim.Native.Nat.{ℕ, suc, _+_, _-_, _%_, _<_, _≤_}
 use native.Mathlib.Omega.{arith}
-use mathlib.Core.Path.{_≡_, refl, ap, _∙_}
-use mathlib.Core.Bool.{Bool, true, false, cond}
+use mathlib.Core.Path.{_≡_, ap, _∙_}
+use mathlib.Core.Bool.{Bool, true, false}
 use mathlib.Core.List.{List}
-use mathlib.Core.Option.{Option as Perhaps, none, some}
+use mathlib.Core.Option.{none, some}
 use lib.ListN.{getD}
 use Rattle.scheduler.specs.Schedulers.{first-after}
 

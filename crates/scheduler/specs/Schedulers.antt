@@ -1,6 +1,6 @@
 -- Round robin and the pick list.
 use Prim.Native.Nat.{ℕ, zero, suc, _+_, _%_}
-use mathlib.Core.Bool.{Bool, true, false, cond}
+use mathlib.Core.Bool.{Bool, false, cond}
 use mathlib.Core.List.{List, [], _∷_}
 use mathlib.Core.Option.{Option as Perhaps, none, some}
 use lib.ListN.{getD, take, drop}

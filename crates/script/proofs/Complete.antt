@@ -1,25 +1,24 @@
 -- The frames of a valid script are accepted.
-use Prim.Native.Nat.{ℕ, zero, suc, _+_, _^_, _≤_, _<_}
+use Prim.Native.Nat.{ℕ, suc, _+_, _≤_, _<_}
 use native.Mathlib.Omega.{arith}
-use mathlib.Core.Path.{_≡_, refl, sym, _∙_, ap, subst}
+use mathlib.Core.Path.{_≡_, refl, sym, subst}
 use mathlib.Core.Bool.{Bool, true, false, _&&_, cond}
-use mathlib.Core.List.{List, [], _∷_, _++_, map}
-use mathlib.Core.Option.{Option, none, some}
-use mathlib.Core.Logic.{_⊎_, inl, inr}
+use mathlib.Core.List.{List, [], _∷_, _++_}
+use mathlib.Core.Option.{none, some}
+use mathlib.Core.Logic.{_⊎_, inr}
 use lib.Dec.{T, eqb, leb, ltb, lt→ltb, le→leb, eqb-refl}
 use lib.ListN.{length}
 use Rattle.std.specs.shelf.Lists.{All}
 use Rattle.lattice.specs.Levels.{Levels}
-use Rattle.codec.specs.Expressions.{Expr}
 use Rattle.script.specs.Code.{Code, Script}
 use Rattle.script.specs.Code.Code.{done, skip, assign, put, branch, loop, lock}
 use Rattle.codec.specs.Frames.{Head, Frame, Read}
 use Rattle.codec.specs.Frames.Frame.{header, track, channel, thread, thread-end, if, else, end-if, while, end-while, with, end-with, last}
-use Rattle.script.specs.Format.{Block, Phase, Seen, Test, _asks_, tests, first-fault, fault, phase-after, seen-after, nothing-seen, judged, Verdict, read-lines}
-use Rattle.script.specs.Format.Phase.{start, outside, inside, ended}
+use Rattle.script.specs.Format.{Block, Phase, Seen, Test, _asks_, tests, first-fault, fault, phase-after, seen-after, nothing-seen, judged, read-lines}
+use Rattle.script.specs.Format.Phase.{start, outside, inside}
 use Rattle.script.specs.Format.Block.{before-else, behind-else, in-while, in-with}
 use Rattle.script.specs.Format.Verdict.{accepted}
-use Rattle.script.specs.Trees.{flatten, thread-frames, store-frames, head-of, body-frames, script-frames, Sound, Valid, total, ValidScript}
+use Rattle.script.specs.Trees.{flatten, thread-frames, store-frames, head-of, body-frames, script-frames, Valid, total, ValidScript}
 use Rattle.script.proofs.Accepting.{Passing}
 use Rattle.script.proofs.Scripts.{length-body}
 

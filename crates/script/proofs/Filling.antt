@@ -1,27 +1,25 @@
 -- Reading in a loop: what is left gives what the whole gives, and the slots so far hold the frames so far.
 use mathlib.Core.Path.{_≡_, refl, sym, ap, ap₂, _∙_}
-use mathlib.Core.Bool.{Bool, true, false, cond}
+use mathlib.Core.Bool.{true, false}
 use mathlib.Core.List.{List, [], _∷_, _++_, map, append-nil}
 use mathlib.Core.Logic.{_⊎_, inl, inr}
-use mathlib.Core.Option.{Option, none, some}
-use Prim.Native.Nat.{ℕ, zero, suc, _+_, _*_, _-_, _≤_, _<_}
+use mathlib.Core.Option.{some}
+use Prim.Native.Nat.{ℕ, suc, _+_, _*_, _≤_, _<_}
 use native.Mathlib.Numerals.{add-one}
 use native.Mathlib.Omega.{arith}
 use lib.ListN.{length, take, drop}
 use borrow.Rule.Slice.PartMut.{putMid}
-use Rattle.std.specs.Joined.{joined}
 use Rattle.std.proofs.shelf.Lists.{joined-more, length-push}
 use Rattle.std.proofs.shelf.Parts.{drop-putMid, take-putMid}
 use Rattle.lattice.specs.Levels.{Levels}
 use Rattle.codec.specs.Lines.{line-bytes, lines, split}
 use Rattle.codec.specs.Frames.{Frame, Read, frame-bytes}
-use Rattle.script.specs.Format.{Seen, Verdict, nothing-seen, fault, is-ended, read-lines, read-script, phase-after, seen-after, whole-line, through}
+use Rattle.script.specs.Format.{Seen, Verdict, nothing-seen, is-ended, read-lines, read-script, seen-after, whole-line, through}
 use Rattle.codec.specs.Frames.Frame.{header, track, channel, thread, thread-end, skip, assign, put, if, else, end-if, while, end-while, with, end-with, last}
 use Rattle.script.specs.Format.Phase.{start}
 use Rattle.script.specs.Format.Verdict.{refused, accepted}
 use Rattle.script.proofs.Stepping.{behind, behind-none, split-more, split-cut, read-more, read-fault, read-line-fault, read-missing, read-over}
 use Rattle.script.specs.declared.faults.Cause.the-variants.{Order}
-use Rattle.script.specs.declared.faults.LineFault.{LineFault}
 use Rattle.script.specs.declared.faults.ScriptFault.{ScriptFault}
 use Rattle.script.specs.declared.faults.ScriptFault.the-variants.{InLine, InFrame}
 use Rattle.codec.specs.declared.lines.Slot.{Slot}

@@ -1,9 +1,9 @@
 -- The frame in a slot of a slab that holds a script.
-use mathlib.Core.Path.{_≡_, refl, sym, ap, subst, _∙_}
+use mathlib.Core.Path.{_≡_, refl, sym, ap, _∙_}
 use mathlib.Core.Bool.{Bool, true, false, _&&_, cond}
 use mathlib.Core.List.{List, [], _∷_, _++_}
-use mathlib.Core.Logic.{_⊎_, inl, inr, ⊎-elim}
-use mathlib.Core.Option.{Option as Perhaps, none, some}
+use mathlib.Core.Logic.{⊎-elim}
+use mathlib.Core.Option.{none, some}
 use Prim.Native.Nat.{ℕ, zero, suc, _+_, _*_, _-_, _≤_, _<_}
 use Rattle.std.proofs.shelf.Tests.{cases-lt}
 use native.Mathlib.Omega.{arith}
@@ -15,7 +15,7 @@ use Rattle.std.specs.declared.option.Option.{Option}
 use Rattle.std.specs.shelf.Lists.{All}
 use Rattle.lattice.specs.Levels.{Levels}
 use Rattle.codec.specs.Frames as M
-use Rattle.codec.specs.Frames.{Read, frame-of}
+use Rattle.codec.specs.Frames.{frame-of}
 use Rattle.codec.specs.Frames.Frame.{skip}
 use Rattle.codec.specs.Shapes.{read-of, whole}
 use Rattle.codec.specs.Slots.{perhaps}

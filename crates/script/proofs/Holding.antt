@@ -1,16 +1,14 @@
 -- A slab that holds a script.
-use mathlib.Core.Path.{_≡_, refl, sym, ap, subst, _∙_}
-use mathlib.Core.Bool.{Bool, true, false}
-use mathlib.Core.List.{List, [], _∷_, _++_, append-assoc}
-use Prim.Native.Nat.{ℕ, suc, _+_, _*_, _-_, _≤_, _<_}
+use mathlib.Core.Path.{_≡_, sym, ap, subst, _∙_}
+use mathlib.Core.Bool.{Bool}
+use mathlib.Core.List.{List, _++_, append-assoc}
+use Prim.Native.Nat.{ℕ, _+_, _*_, _-_, _≤_}
 use native.Mathlib.Omega.{arith}
-use lib.Dec.{ltb}
 use lib.ListN.{length, take, drop, replicate, length-append, length-replicate}
 use borrow.Author.Tests.{le-ltb}
 use borrow.Rule.Slice.PartMut.{putMid}
 use Rattle.std.proofs.shelf.Lists.{drop-drop, length-take-le, take-at}
 use Rattle.std.specs.shelf.Lists.{All}
-use Rattle.std.specs.declared.result.Result.{Result}
 use Rattle.std.specs.declared.result.Result.the-variants.{Ok}
 use Rattle.lattice.specs.Levels.{Levels}
 use Rattle.codec.specs.Frames.{Frame}
@@ -18,7 +16,6 @@ use Rattle.script.specs.Format.{Seen, Verdict, read-script}
 use Rattle.codec.specs.Writable.{Writable}
 use Rattle.script.proofs.Text.{text-accepted}
 use Rattle.script.specs.declared.Accepted.{Accepted}
-use Rattle.script.specs.declared.faults.RunFault.{RunFault}
 use Rattle.script.specs.declared.state.State.{State}
 use Rattle.script.specs.Takings.{Fills}
 use Rattle.script.specs.Slabs.{slots-of, Declares, slab-of, Holds}

@@ -1,18 +1,16 @@
 -- One line: its frame, its tests and its slot.
-use mathlib.Core.Path.{_≡_, refl, sym, ap, _∙_}
-use mathlib.Core.Bool.{Bool, true, cond}
-use mathlib.Core.List.{List, [], _∷_, _++_}
-use mathlib.Core.Logic.{_⊎_, inl, inr}
+use mathlib.Core.Path.{_≡_, sym, ap, _∙_}
+use mathlib.Core.List.{List, [], _∷_}
 use mathlib.Core.Option.{Option, none, some}
-use Prim.Native.Nat.{ℕ, suc, _+_, _-_, _≤_, _<_}
+use Prim.Native.Nat.{ℕ, suc, _+_, _-_}
 use native.Mathlib.Numerals.{add-one}
 use native.Mathlib.Omega.{arith}
-use lib.Dec.{T, ltb, ltb→lt}
-use lib.ListN.{length, take}
+use lib.Dec.{ltb, ltb→lt}
+use lib.ListN.{take}
 use Rattle.lattice.specs.Levels.{Levels}
 use Rattle.codec.specs.Lines.{line-bytes}
-use Rattle.codec.specs.Frames.{Frame, Read, frame-of, frame-bytes}
-use Rattle.script.specs.Format.{Test, _asks_, tests, first-fault, fault, whole-line, or-fault-2}
+use Rattle.codec.specs.Frames.{Read, frame-of}
+use Rattle.script.specs.Format.{Test, _asks_, tests, fault, whole-line, or-fault-2}
 use Rattle.script.proofs.Accepting.{passing, passing-parts}
 use Rattle.codec.proofs.Encoding.{frame-back}
 use Rattle.script.proofs.Text.{whole}

@@ -9,7 +9,6 @@ use native.Mathlib.Omega.{arith}
 use borrow.Author.Tests.{ne-eqb}
 use lib.Dec.{eqb}
 use Rattle.std.specs.declared.option.Option.{Option}
-use Rattle.std.specs.declared.option.Option.the-variants.{Some, None}
 use Rattle.lattice.specs.Levels.{Levels}
 use Rattle.codec.specs.Lines.{line-bytes, lines, split}
 use Rattle.codec.specs.Frames.{Frame, Head, Read}

@@ -1,10 +1,10 @@
 -- What an accepting reading leaves: from every state on, the frames are those of a valid rest of a script.
-use Prim.Native.Nat.{ℕ, zero, suc, _+_, _^_, _≤_, _<_}
+use Prim.Native.Nat.{ℕ, suc, _+_, _^_, _≤_, _<_}
 use native.Mathlib.Omega.{arith}
-use mathlib.Core.Path.{_≡_, refl, sym, _∙_, ap, subst}
+use mathlib.Core.Path.{_≡_, refl, _∙_, ap}
 use mathlib.Core.Bool.{Bool, true, false, _&&_}
 use mathlib.Core.List.{List, [], _∷_}
-use lib.Dec.{T, ltb, leb, eqb, ltb→lt, leb→le, eqb→eq}
+use lib.Dec.{T, ltb, eqb, ltb→lt, leb→le, eqb→eq}
 use lib.ListN.{length}
 use Rattle.std.specs.shelf.Lists.{All}
 use Rattle.lattice.specs.Levels.{Levels}
@@ -13,8 +13,8 @@ use Rattle.script.specs.Code.{Code}
 use Rattle.script.specs.Code.Code.{done, skip, assign, put, branch, loop, lock}
 use Rattle.codec.specs.Frames.{Head, Frame}
 use Rattle.codec.specs.Frames.Frame.{header, track, channel, thread, thread-end, if, else, end-if, while, end-while, with, end-with, last}
-use Rattle.script.specs.Format.{Block, Phase, Seen, one-more-frame, seen-after, is-next, all-tracks, all-channels, all-threads}
-use Rattle.script.specs.Format.Phase.{start, outside, inside, ended}
+use Rattle.script.specs.Format.{Block, Seen, one-more-frame, seen-after, is-next, all-tracks, all-channels, all-threads}
+use Rattle.script.specs.Format.Phase.{outside, inside, ended}
 use Rattle.script.specs.Format.Block.{before-else, behind-else, in-while, in-with}
 use Rattle.script.specs.Trees.{flatten, thread-frames, store-frames, Sound, Valid, total}
 use Rattle.script.proofs.Accepting.{Accepts}

@@ -1,28 +1,24 @@
 -- What the verdict on lines means, and that what was read comes back.
-use mathlib.Core.Path.{_≡_, refl, sym, ap, subst, _∙_}
+use mathlib.Core.Path.{_≡_, refl, sym, ap, _∙_}
 use mathlib.Core.Bool.{Bool, true, false, cond}
 use mathlib.Core.List.{List, [], _∷_, _++_}
 use mathlib.Core.Logic.{_⊎_, inl, inr}
 use mathlib.Core.Option.{Option as Perhaps, none, some}
-use Prim.Native.Nat.{ℕ, suc, _+_, _≤_, _<_}
+use Prim.Native.Nat.{ℕ, suc, _+_, _<_}
 use native.Mathlib.Omega.{arith}
 use borrow.Author.Tests.{ltb-true}
 use lib.Dec.{ltb}
-use lib.ListN.{length, drop, replicate}
+use lib.ListN.{length, drop}
 use Rattle.std.specs.declared.result.Result.{Result}
 use Rattle.std.specs.declared.result.Result.the-variants.{Ok, Err}
-use Rattle.std.specs.shelf.Lists.{All}
 use Rattle.lattice.specs.Levels.{Levels}
 use Rattle.codec.specs.Frames.{Frame, Read}
-use Rattle.codec.specs.Writable.{Writable}
-use Rattle.script.specs.Code.{Script}
 use Rattle.script.specs.Format.{Phase, Seen, Verdict, fault, is-ended, judged, nothing-seen, phase-after, phase-through, read-lines, read-script, read-text, seen-after, through}
 use Rattle.script.specs.Format.Phase.{start}
 use Rattle.script.specs.Format.Verdict.{refused, accepted}
-use Rattle.script.specs.Trees.{ValidScript, script-frames}
-use Rattle.script.specs.Text.{script-text, text-of}
-use Rattle.script.specs.Slabs.{Holds, slab-of}
-use Rattle.script.specs.Promises.{Accepts-exactly, Comes-back, First-fault, Passed, Read-as, Read-gives, Reads, Tells-first, Too-short, Valid-text, Write-gives, Writes, by-test, next-fault}
+use Rattle.script.specs.Trees.{script-frames}
+use Rattle.script.specs.Text.{text-of}
+use Rattle.script.specs.Promises.{Comes-back, First-fault, Passed, Read-as, Read-gives, Reads, Too-short, Valid-text, Write-gives, Writes, by-test, next-fault}
 use Rattle.script.specs.declared.Accepted.{Accepted}
 use Rattle.script.specs.declared.faults.RunFault.{RunFault}
 use Rattle.script.proofs.Filling.{frames-after}

@@ -1,8 +1,7 @@
 -- An accepted script is the frames of a valid tree.
-use Prim.Native.Nat.{ℕ, zero, suc, _+_, _≤_}
+use Prim.Native.Nat.{ℕ, suc}
 use native.Mathlib.Omega.{arith}
 use mathlib.Core.Path.{_≡_, refl, sym, _∙_, ap, subst}
-use mathlib.Core.Bool.{Bool, true, false, _&&_}
 use mathlib.Core.List.{List, [], _∷_, map}
 use mathlib.Core.Logic.{_⊎_}
 use lib.Dec.{T, eqb, eqb→eq}
@@ -13,15 +12,15 @@ use Rattle.script.specs.Code.{Code, Script}
 use Rattle.script.specs.Code.Code.{done, skip, assign, put, branch, loop, lock}
 use Rattle.codec.specs.Frames.{Head, Frame, Read}
 use Rattle.codec.specs.Frames.Frame.{header, track, channel, thread, thread-end, if, else, end-if, while, end-while, with, end-with, last}
-use Rattle.script.specs.Format.{Phase, Seen, nothing-seen, seen-after, head-in-range, Verdict, read-lines, read-script, whole-line}
-use Rattle.script.specs.Format.Phase.{start, outside}
+use Rattle.script.specs.Format.{nothing-seen, seen-after, head-in-range, read-lines, read-script, whole-line}
+use Rattle.script.specs.Format.Phase.{start}
 use Rattle.script.specs.Format.Verdict.{accepted}
 use Rattle.codec.specs.Lines.{split}
 use Rattle.script.specs.Trees.{flatten, thread-frames, store-frames, head-of, body-frames, script-frames, Valid, ValidScript}
 use Rattle.script.specs.Grown.{script-of}
 use Rattle.script.proofs.Unique.{script-of-frames}
 use Rattle.script.proofs.Accepting.{Accepts, accepts}
-use Rattle.script.proofs.Parsing.{and-left, Outside, from-outside, threads-left}
+use Rattle.script.proofs.Parsing.{and-left, Outside, from-outside}
 
 -- How many frames there are goes by how many follow.
 

@@ -1,23 +1,21 @@
 -- Finding the script in a slab, slot by slot: the frames so far stand in front of every script that the slab holds.
 use mathlib.Core.Path.{_≡_, refl, sym, ap, ap₂, subst, _∙_}
-use mathlib.Core.Bool.{Bool, true, false}
+use mathlib.Core.Bool.{true, false}
 use mathlib.Core.List.{List, [], _∷_, _++_, map, append-assoc, append-nil}
-use mathlib.Core.Logic.{_⊎_, inl, inr}
+use mathlib.Core.Logic.{_⊎_, inr}
 use mathlib.Core.Option.{Option, none, some}
-use Prim.Native.Nat.{ℕ, zero, suc, _+_, _*_, _-_, _≤_, _<_}
+use Prim.Native.Nat.{ℕ, suc, _+_, _*_, _-_, _≤_, _<_}
 use native.Mathlib.Numerals.{add-one}
 use native.Mathlib.Omega.{arith}
-use lib.Dec.{T, ltb, ltb→lt}
+use lib.Dec.{ltb, ltb→lt}
 use lib.ListN.{length, take, drop, replicate, length-append, length-replicate}
-use Rattle.std.specs.Joined.{joined}
 use Rattle.std.specs.shelf.Lists.{All}
 use Rattle.std.proofs.shelf.Elements.{all-push}
 use Rattle.std.proofs.shelf.Lists.{drop-at, drop-take, joined-more, length-drop, length-push, length-take, length-take-le, take-append-drop, take-at, take-take}
 use Rattle.lattice.specs.Levels.{Levels}
-use Rattle.codec.specs.Lines.{split, written}
 use Rattle.codec.specs.Frames.{Frame, Read, frame-of, frame-bytes}
 use Rattle.codec.specs.Frames.Frame.{header, track, channel, thread, thread-end, skip, assign, put, if, else, end-if, while, end-while, with, end-with, last}
-use Rattle.script.specs.Format.{Phase, Seen, Test, Verdict, _asks_, nothing-seen, fault, is-ended, read-lines, read-script, seen-after, tests, whole-line, through}
+use Rattle.script.specs.Format.{Phase, Seen, _asks_, nothing-seen, fault, is-ended, read-lines, read-script, seen-after, tests, whole-line, through}
 use Rattle.script.specs.Format.Phase.{start, outside, inside, ended}
 use Rattle.script.specs.Format.Verdict.{refused, accepted}
 use Rattle.codec.specs.Writable.{Writable}
@@ -25,14 +23,14 @@ use Rattle.script.proofs.Accepting.{Passing, passing, passing-parts}
 use Rattle.script.proofs.Complete.{whole-lines}
 use Rattle.codec.proofs.Encoding.{frame-forth}
 use Rattle.script.proofs.Stepping.{behind, behind-none, read-more, read-fault, read-missing, read-over}
-use Rattle.script.proofs.Text.{all-sized, lines-of, sized, text-accepted}
+use Rattle.script.proofs.Text.{all-sized, lines-of, sized}
 use Rattle.codec.proofs.Writing.{split-written}
 use Rattle.script.specs.declared.Declarations.{Declarations}
 use Rattle.script.specs.declared.state.State.{State}
 use Rattle.codec.specs.Slots.{padded}
 use Rattle.codec.specs.Shapes.{whole}
 use Rattle.script.specs.Stages.{phase-of, seen-of, declaring}
-use Rattle.script.specs.Slabs.{slots-of, Declares, Holds, slab-of}
+use Rattle.script.specs.Slabs.{slots-of, Holds}
 use Rattle.script.specs.Nexts.{Fitting, Next, NoNext}
 use Rattle.script.specs.Findings.{all-zero}
 use Rattle.script.specs.Writings.{Slotted}

@@ -1,19 +1,18 @@
 -- How long the frame at the front of a slot is.
 use mathlib.Core.Path.{_≡_, refl, sym, ap, _∙_}
-use mathlib.Core.Bool.{Bool, true, false, _&&_, cond}
+use mathlib.Core.Bool.{Bool, true, false, _&&_}
 use mathlib.Core.List.{List, [], _∷_, _++_}
-use Prim.Native.Nat.{ℕ, zero, suc, _+_, _-_, _/_, _%_, _*_, _≤_, _<_}
+use Prim.Native.Nat.{ℕ, zero, suc, _+_, _-_, _/_, _%_, _≤_, _<_}
 use native.Mathlib.Omega.{arith}
 use borrow.Author.Tests.{eqb-true, ne-eqb}
 use lib.Dec.{eqb}
-use lib.IntN.{ℤ}
 use lib.ListN.{length, replicate, getD, drop}
 use mir.Syntax.{w32}
 use mir.Val.{toZ, ofZ}
 use Rattle.std.specs.shelf.Lists.{All}
 use Rattle.std.proofs.shelf.Lists.{at-drop-more, at-drop-all}
 use Rattle.std.proofs.shelf.Signed.{toZ-ofZ}
-use Rattle.codec.specs.Expressions.{Op, Expr, Decoded, decode, operation, expr-bytes, number-4}
+use Rattle.codec.specs.Expressions.{Expr, decode, operation, expr-bytes, number-4}
 use Rattle.codec.specs.Expressions.Op.{constant, variable, sample, held, binary, unary}
 use Rattle.codec.specs.Expressions.Binary.{sum, difference, product, quotient, less, equal, both, either}
 use Rattle.codec.specs.Expressions.Unary.{negated, inverted}

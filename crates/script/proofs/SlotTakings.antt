@@ -1,17 +1,17 @@
 -- A slot of any bytes holds a frame or it does not.
 use mathlib.Core.Path.{_≡_, refl, sym, ap, subst, _∙_}
-use mathlib.Core.Bool.{Bool, true, false}
+use mathlib.Core.Bool.{true, false}
 use mathlib.Core.List.{List, [], _∷_, _++_}
 use mathlib.Core.Option.{Option, none, some}
-use Prim.Native.Nat.{ℕ, suc, _+_, _-_, _≤_, _<_}
+use Prim.Native.Nat.{ℕ, _-_, _≤_, _<_}
 use native.Mathlib.Omega.{arith}
 use lib.Dec.{ltb}
-use lib.ListN.{length, take, drop, getD, replicate, length-append, length-replicate}
+use lib.ListN.{length, take, drop, replicate}
 use Rattle.std.proofs.shelf.Elements.{all-take}
 use Rattle.std.proofs.shelf.Lists.{take-at, drop-at, take-rest, take-append-drop, length-take-le, length-drop}
 use Rattle.lattice.specs.Levels.{Levels}
 use Rattle.codec.specs.Frames.{Frame, Read, frame-of, frame-bytes}
-use Rattle.script.specs.Format.{Test, _asks_, tests, first-fault, fault}
+use Rattle.script.specs.Format.{Test, _asks_, tests, fault}
 use Rattle.codec.specs.Writable.{Bytes, Writable}
 use Rattle.script.proofs.Accepting.{passing, passing-parts}
 use Rattle.codec.proofs.Encoding.{frame-back, frame-forth, frame-fits}

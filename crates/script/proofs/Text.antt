@@ -1,28 +1,25 @@
 -- What is accepted is the text of a valid script, and the text of every valid script that can be written is accepted.
-use Prim.Native.Nat.{ℕ, zero, suc, _+_, _≤_, _<_}
+use Prim.Native.Nat.{ℕ, suc}
 use native.Mathlib.Omega.{arith}
-use mathlib.Core.Path.{_≡_, refl, sym, _∙_, ap, ap₂, subst}
+use mathlib.Core.Path.{_≡_, refl, sym, _∙_, ap, subst}
 use mathlib.Core.Bool.{Bool, true, false, _&&_, cond}
-use mathlib.Core.List.{List, [], _∷_, _++_, map}
+use mathlib.Core.List.{List, [], _∷_, map}
 use mathlib.Core.Option.{Option, none, some}
-use mathlib.Core.Logic.{_⊎_, inl, inr}
 use lib.Dec.{T, ltb}
-use lib.ListN.{length}
 use Rattle.std.specs.shelf.Lists.{All}
 use Rattle.lattice.specs.Levels.{Levels}
 use Rattle.script.specs.Code.{Script}
 use Rattle.codec.specs.Lines.{split, written}
-use Rattle.codec.specs.Expressions.{expr-bytes}
 use Rattle.codec.specs.Frames.{Frame, Read, frame-of, frame-bytes}
 use Rattle.codec.specs.Frames.Frame.{header, track, channel, thread, thread-end, if, else, end-if, while, end-while, with, end-with, last}
-use Rattle.script.specs.Format.{Phase, Seen, Test, _asks_, tests, first-fault, fault, phase-after, seen-after, nothing-seen, is-ended, or-fault-2, whole-line, judged, Verdict, read-lines, read-script}
+use Rattle.script.specs.Format.{Phase, Seen, _asks_, tests, fault, phase-after, seen-after, nothing-seen, is-ended, or-fault-2, whole-line, read-lines, read-script}
 use Rattle.script.specs.Format.Phase.{start}
 use Rattle.script.specs.Format.Verdict.{refused, accepted}
 use Rattle.script.specs.Trees.{script-frames, ValidScript}
-use Rattle.codec.specs.Writable.{Bytes, FrameFits, Writable}
+use Rattle.codec.specs.Writable.{Bytes, Writable}
 use Rattle.script.specs.Text.{script-text}
 use Rattle.script.proofs.Accepting.{Passing, passing, passing-parts, judged-accepted}
-use Rattle.script.proofs.Scripts.{Tree, script-accepted}
+use Rattle.script.proofs.Scripts.{script-accepted}
 use Rattle.script.proofs.Complete.{whole-lines, valid-read}
 use Rattle.codec.proofs.Writing.{Sized, split-written, written-split}
 use Rattle.codec.proofs.Encoding.{Whole, frame-back, frame-forth, frame-fits}

@@ -1,15 +1,15 @@
 -- A script's frames have one tree.
 use Prim.Native.Nat.{ℕ, suc}
 use native.Mathlib.Omega.{arith}
-use mathlib.Core.Path.{_≡_, refl, sym, _∙_, ap, subst}
+use mathlib.Core.Path.{_≡_, refl, sym, _∙_, ap}
 use mathlib.Core.List.{List, [], _∷_}
 use lib.ListN.{length}
 use Rattle.script.specs.Code.{Code, Script}
 use Rattle.script.specs.Code.Code.{done, skip, assign, put, branch, loop, lock}
-use Rattle.codec.specs.Frames.{Head, Frame}
+use Rattle.codec.specs.Frames.{Frame}
 use Rattle.codec.specs.Frames.Frame.{header, track, channel, thread, thread-end, if, else, end-if, while, end-while, with, end-with, last}
-use Rattle.script.specs.Trees.{flatten, thread-frames, store-frames, head-of, body-frames, script-frames}
-use Rattle.script.specs.Grown.{Ending, Grown, no-code, no-script, now-ends, later-ends, with-code, grow, grown, script-of}
+use Rattle.script.specs.Trees.{flatten, thread-frames, store-frames, head-of, script-frames}
+use Rattle.script.specs.Grown.{Grown, no-code, with-code, grow, grown, script-of}
 
 -- One stretch behind another.
 abbrev pub then : Code → Code → Code

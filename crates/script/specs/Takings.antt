@@ -1,6 +1,6 @@
 -- What the lines of a script come to, one at a time and all together.
 use mathlib.Core.Path.{_≡_}
-use mathlib.Core.List.{List, [], _∷_}
+use mathlib.Core.List.{List}
 use mathlib.Core.Option.{Option as Perhaps, none, some}
 use mathlib.Core.Logic.{_⊎_, inl, inr}
 use Prim.Native.Nat.{ℕ, suc, _*_, _≤_, _<_}
@@ -8,7 +8,7 @@ use lib.ListN.{length, take, drop}
 use Rattle.lattice.specs.Levels.{Levels}
 use Rattle.codec.specs.Lines.{line-bytes}
 use Rattle.codec.specs.Frames.{Frame, Read, frame-bytes}
-use Rattle.script.specs.Format.{Seen, nothing-seen, fault, seen-after, read-script, through}
+use Rattle.script.specs.Format.{nothing-seen, fault, read-script, through}
 use Rattle.script.specs.Format.Verdict.{refused, accepted}
 use Rattle.script.specs.declared.faults.LineFault.{LineFault}
 use Rattle.script.specs.declared.faults.ScriptFault.{ScriptFault}

@@ -2,7 +2,6 @@
 ghost use mathlib.Core.Path.{_≡_};
 ghost use Prim.Native.Nat.{_+_, _≤_, _<_};
 ghost use lib.ListN.{length, replicate};
-ghost use Rattle.std.specs.Options.{Cases};
 ghost use Rattle.script.specs.Promises.{Write-gives, Writes};
 ghost use Rattle.script.specs.Writings.{Put-line, Puts};
 use crate::SLOT;

@@ -4,7 +4,7 @@ use native.Mathlib.Omega.{arith}
 use mathlib.Core.Path.{_≡_, refl, sym, ap, subst}
 use mathlib.Core.Bool.{Bool, true, false, not, cond}
 use mathlib.Core.List.{List, [], _∷_}
-use lib.Dec.{ltb, ltb→lt}
+use lib.Dec.{ltb→lt}
 use lib.ListN.{length, getD, set, List·getD-map}
 use lib.Seq.{getD-set-same}
 use Rattle.std.proofs.shelf.Elements.{all-getD}

@@ -1,4 +1,4 @@
-use mathlib.Core.Path.{_≡_, sym}
+use mathlib.Core.Path.{sym}
 use mathlib.Core.Bool.{false}
 use Rattle.std.proofs.shelf.Lists.{getD-past}
 use Rattle.scheduler.proofs.is_ready.Needs as need

@@ -1,4 +1,4 @@
-use mathlib.Core.Path.{_≡_, sym, ap, _∙_}
+use mathlib.Core.Path.{sym, ap, _∙_}
 use borrow.Author.Tests.{true-eqb}
 use Rattle.std.proofs.shelf.Lists.{nil-from-length}
 use Rattle.codec.specs.Expressions.{decode}

@@ -1,4 +1,3 @@
-use borrow.Author.Needs.{needs}
 use Rattle.codec.proofs.LineSteps.{no-end-more, line-found, no-end-all}
 use Rattle.codec.proofs.lines.split_line.Needs as need
 

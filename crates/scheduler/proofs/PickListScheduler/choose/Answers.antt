@@ -1,10 +1,9 @@
-use mathlib.Core.Path.{_≡_, sym, ap, _∙_}
+use mathlib.Core.Path.{sym, ap, _∙_}
 use mathlib.Core.List.{List}
 use Prim.Native.Nat.{ℕ, _≤_, _<_, min}
 use native.Mathlib.Omega.{arith}
 use lib.ListN.{length}
 use Rattle.scheduler.specs.Schedulers.{pick-list, place-after}
-use Rattle.scheduler.specs.declared.PickList.{PickList}
 use Rattle.scheduler.proofs.Picks.{none-left, one-left}
 use Rattle.scheduler.proofs.PickListScheduler.choose.Needs as need
 

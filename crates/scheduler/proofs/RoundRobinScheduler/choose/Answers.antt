@@ -1,8 +1,7 @@
-use mathlib.Core.Path.{_≡_, sym, ap, _∙_}
-use mathlib.Core.Option.{Option as Perhaps, none, some}
+use mathlib.Core.Path.{sym, ap, _∙_}
+use mathlib.Core.Option.{Option as Perhaps}
 use Prim.Native.Nat.{ℕ}
 use Rattle.scheduler.specs.Schedulers.{chosen-or}
-use Rattle.scheduler.specs.declared.RoundRobin.{RoundRobin}
 use Rattle.scheduler.proofs.Scans.{hit, miss, over}
 use Rattle.scheduler.proofs.RoundRobinScheduler.choose.Needs as need
 

@@ -1,6 +1,5 @@
-use mathlib.Core.Path.{_≡_, ap, sym, _∙_}
+use mathlib.Core.Path.{ap, sym, _∙_}
 use native.Mathlib.Omega.{arith}
-use borrow.Author.Needs.{needs}
 use borrow.Author.Tests.{true-eqb}
 use Rattle.std.proofs.shelf.Lists.{nil-from-length}
 use Prim.Native.Nat.{_+_}

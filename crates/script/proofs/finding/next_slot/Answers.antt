@@ -1,12 +1,10 @@
-use mathlib.Core.Path.{_≡_, ap, sym, _∙_}
+use mathlib.Core.Path.{ap, _∙_}
 use Prim.Native.Nat.{ℕ, _-_, _<_, _≤_}
 use native.Mathlib.Omega.{arith}
 use lib.ListN.{length, take, drop}
-use borrow.Author.Needs.{needs}
 use Rattle.std.proofs.shelf.Elements.{all-from-getD}
 use Rattle.codec.specs.Frames.{frame-of}
 use Rattle.codec.specs.Writable.{Bytes}
-use Rattle.script.specs.Refusals.{cause-number}
 use Rattle.codec.specs.Shapes.{read-of}
 use Rattle.script.specs.Findings.{all-zero, length-at}
 use Rattle.script.proofs.SlotTakings.{too-long, not-zero, no-frame, faulted, next-is}

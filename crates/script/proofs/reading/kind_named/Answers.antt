@@ -1,9 +1,8 @@
-use mathlib.Core.Path.{_≡_, sym, ap, _∙_}
+use mathlib.Core.Path.{sym, ap, _∙_}
 use mathlib.Core.List.{[], _∷_}
 use mathlib.Core.Logic.{_⊎_}
 use Prim.Native.Nat.{ℕ}
 use Rattle.codec.specs.Frames.{Read}
-use Rattle.codec.specs.Shapes.{read-of}
 use Rattle.script.specs.Format.{first-kind, whole-line}
 use Rattle.script.specs.Takings.{Line-slot}
 use Rattle.script.proofs.LineTakings.{line-of}

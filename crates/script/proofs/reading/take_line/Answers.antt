@@ -1,4 +1,3 @@
-use borrow.Author.Needs.{needs}
 use Rattle.std.proofs.shelf.Results.{err-from-errBy}
 use Rattle.codec.specs.Shapes.{read-of}
 use Rattle.script.proofs.LineTakings.{took, refused-frame, refused-shape, refused-line}

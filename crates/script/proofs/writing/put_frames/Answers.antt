@@ -1,12 +1,8 @@
 use mathlib.Core.Path.{_≡_, refl}
-use mathlib.Core.List.{List}
-use Prim.Native.Nat.{_+_, _*_, _-_, _<_, _≤_}
+use Prim.Native.Nat.{_+_, _*_, _-_}
 use native.Mathlib.Omega.{arith}
-use lib.ListN.{length}
 use borrow.Author.Needs.{needs}
 use Rattle.codec.specs.Lines.{written}
-use Rattle.codec.specs.Frames.{Frame, frame-bytes}
-use Rattle.script.specs.Writings.{Slotted}
 use Rattle.script.proofs.Texting.{front-is, frame-again, frames-done, frames-none}
 use Rattle.script.proofs.writing.put_frames.Needs as need
 

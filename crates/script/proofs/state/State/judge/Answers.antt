@@ -1,10 +1,7 @@
-use mathlib.Core.Path.{_≡_, sym, ap, _∙_}
-use Prim.Native.Nat.{ℕ, _+_, _<_}
-use native.Mathlib.Numerals.{add-one}
+use Prim.Native.Nat.{_<_}
 use native.Mathlib.Omega.{arith}
 use Rattle.std.proofs.shelf.Results.{err-from-errBy}
 use Rattle.codec.specs.Shapes.{read-of}
-use Rattle.script.specs.Format.{Seen}
 use Rattle.script.proofs.Judging.{no-fault, one-too-many, own-fault, counted}
 use Rattle.script.proofs.state.State.judge.Needs as need
 

@@ -1,4 +1,3 @@
-use mathlib.Core.Path.{_≡_}
 use mathlib.Core.Bool.{Bool, _&&_}
 use Rattle.codec.specs.Expressions.{Decoded, decode}
 use Rattle.codec.specs.Sound.{declared, leaves-one}
@@ -7,7 +6,6 @@ use Prim.Native.Nat.{_<_}
 use lib.ListN.{length}
 use native.Mathlib.Omega.{arith}
 use borrow.Author.Needs.{needs}
-use borrow.Author.Tests.{lt-ltb}
 use Rattle.script.proofs.OpenBlocks.{opening-is}
 use Rattle.script.proofs.state.State.opening.Needs as need
 

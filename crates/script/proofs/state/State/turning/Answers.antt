@@ -1,7 +1,5 @@
-use mathlib.Core.Path.{_≡_}
 use Prim.Native.Nat.{_≤_}
 use lib.ListN.{length}
-use native.Mathlib.Omega.{arith}
 use borrow.Author.Needs.{needs}
 use Rattle.script.specs.Format.Block.{before-else}
 use Rattle.script.specs.declared.state.Block.the-variants.{BehindElse}
