@@ -120,3 +120,9 @@ cut-is code e h₁ h₂ h₃ h₄ =
 
 abbrev pub sound : ℕ → Decoded → Bool
 sound n d = d .whole && leaves-one n (d .ops)
+
+-- A code of which no operation can be read.
+pub none-read : (code : List ℕ) → (0 < length code → decode 0 code ≡ stopped) → decode 0 code .ops ≡ []
+unfolding decode
+none-read [] h = refl
+none-read (k ∷ bs) h = ap (λ (d : Decoded). d .ops) (h (omega arith))

@@ -11,6 +11,7 @@ ghost use Rattle.codec.specs.Shapes.{head-of};
 ghost use Rattle.codec.specs.Slots.{perhaps};
 use crate::frames::Head;
 
+// Operations on two working numbers; the lower one is the first operand.
 #[derive(Clone, Copy)]
 pub enum Binary {
     Sum,
@@ -23,17 +24,21 @@ pub enum Binary {
     Either,
 }
 
+// Operations on one.
 #[derive(Clone, Copy)]
 pub enum Unary {
     Negated,
     Inverted,
 }
 
+// One operation of an expression.
 #[derive(Clone, Copy)]
 pub enum Op {
     Constant(i32),
     Variable(u8),
+    // The sample of a track, in place of its index.
     Sample(u8),
+    // How many samples a track holds.
     Held(u8),
     Two(Binary),
     One(Unary),
@@ -78,6 +83,7 @@ pub fn first_op(code: &[u8]) -> Option<(Op, &[u8])>
     }
 }
 
+// Whether the variable or track that an operation names is declared.
 fn is_declared(op: Op, head: &Head) -> bool
     ensures { λ r. ⌜ r ≡ op-declared (head-of (now (head .entry))) (op-of op) ⌝ }
 {
@@ -93,16 +99,11 @@ pub fn names_declared(code: &[u8], head: &Head) -> bool
     ensures { λ r. ⌜ r ≡ declared (head-of (now (head .entry))) (decode 0 (now (code .entry)) .ops) ⌝ }
 {
     let mut rest = code;
-    while !rest.is_empty() {
-        match first_op(rest) {
-            Some((op, after)) => {
-                if !is_declared(op, head) {
-                    return false;
-                }
-                rest = after;
-            }
-            None => return true,
+    while let Some((op, after)) = first_op(rest) {
+        if !is_declared(op, head) {
+            return false;
         }
+        rest = after;
     }
     true
 }

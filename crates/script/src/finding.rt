@@ -51,14 +51,9 @@ fn code_length(code: &[u8]) -> usize
 {
     let mut rest = code;
     let mut n = 0;
-    while !rest.is_empty() {
-        match first_op(rest) {
-            Some((op, after)) => {
-                n += op_length(op);
-                rest = after;
-            }
-            None => return n,
-        }
+    while let Some((op, after)) = first_op(rest) {
+        n += op_length(op);
+        rest = after;
     }
     n
 }

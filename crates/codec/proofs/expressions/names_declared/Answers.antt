@@ -1,13 +1,10 @@
-use mathlib.Core.Path.{sym, ap, _∙_}
-use borrow.Author.Tests.{true-eqb}
-use Rattle.std.proofs.shelf.Lists.{nil-from-length}
-use Rattle.codec.specs.Expressions.{decode}
+use mathlib.Core.Path.{_≡_, sym, ap, _∙_}
+use Rattle.codec.specs.Expressions.{Expr}
 use Rattle.codec.specs.Sound.{declared}
 use Rattle.codec.specs.Shapes.{head-of}
+use Rattle.codec.proofs.Postfix.{none-read}
 use Rattle.codec.proofs.expressions.names_declared.Needs as need
 
 pub returns : need.returns
-unfolding decode
 returns c =
-    let none = nil-from-length (c .loop-rest .rest .now) (true-eqb _ 0 (c .loop-rest-test .ensures tt)) in
-    ap (λ r. declared (head-of (c .args .head .now)) (decode 0 r .ops)) (sym none) ∙ c .loop-rest .inv
+    ap (λ (e : Expr). declared (head-of (c .args .head .now)) e) (sym (none-read (c .loop-op .rest .now) (c .in-rest .ensures tt))) ∙ c .loop-op .inv

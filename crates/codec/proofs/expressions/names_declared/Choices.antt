@@ -5,8 +5,8 @@ use Rattle.codec.specs.Sound.{declared}
 use Rattle.codec.specs.Shapes.{head-of}
 use Rattle.codec.proofs.expressions.names_declared.Given as given
 
-abbrev pub Inv-loop-rest : given.InvT-loop-rest
-Inv-loop-rest l = declared (head-of (l .head)) (decode 0 (l .rest) .ops) ≡ declared (head-of (l .head)) (decode 0 (l .code) .ops)
+abbrev pub Inv-loop-op : given.InvT-loop-op
+Inv-loop-op l = declared (head-of (l .head)) (decode 0 (l .rest) .ops) ≡ declared (head-of (l .head)) (decode 0 (l .code) .ops)
 
-abbrev pub μ-loop-rest : given.MeasureT-loop-rest
-μ-loop-rest l = length (l .rest)
+abbrev pub μ-loop-op : given.MeasureT-loop-op
+μ-loop-op l = length (l .rest)
