@@ -34,7 +34,8 @@ numbered-in [] i h = absurd (omega arith)
 numbered-in (f ∷ fs) zero h = refl
 numbered-in (f ∷ fs) (suc i) h = numbered-in fs i (omega arith)
 
-numbered-past : (fs : List M.Frame) (i : ℕ) → length fs ≤ i → frame-number i fs ≡ none
+-- Past its frames a script has none.
+pub numbered-past : (fs : List M.Frame) (i : ℕ) → length fs ≤ i → frame-number i fs ≡ none
 numbered-past [] i h = refl
 numbered-past (f ∷ fs) zero h = absurd (omega arith)
 numbered-past (f ∷ fs) (suc i) h = numbered-past fs i (omega arith)

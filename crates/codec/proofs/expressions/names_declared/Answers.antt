@@ -1,4 +1,4 @@
-use mathlib.Core.Path.{_≡_, sym, ap, _∙_}
+use mathlib.Core.Path.{sym, ap, _∙_}
 use Rattle.codec.specs.Expressions.{Expr}
 use Rattle.codec.specs.Sound.{declared}
 use Rattle.codec.specs.Shapes.{head-of}

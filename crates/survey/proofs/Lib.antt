@@ -1,0 +1,4 @@
+pub mod Literals
+pub mod Masks
+pub mod Peeling
+pub mod Framed
