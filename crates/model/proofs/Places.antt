@@ -4,3 +4,4 @@ pub mod Skipping
 pub mod Standing
 pub mod Unique
 pub mod Within
+pub mod Walking
