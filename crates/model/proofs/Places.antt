@@ -5,3 +5,4 @@ pub mod Standing
 pub mod Unique
 pub mod Within
 pub mod Walking
+pub mod Rebuilding
