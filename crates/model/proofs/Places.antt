@@ -6,3 +6,4 @@ pub mod Unique
 pub mod Within
 pub mod Walking
 pub mod Rebuilding
+pub mod Owning
