@@ -7,3 +7,4 @@ pub mod Within
 pub mod Walking
 pub mod Rebuilding
 pub mod Owning
+pub mod Levelling
