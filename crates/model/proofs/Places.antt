@@ -8,3 +8,4 @@ pub mod Walking
 pub mod Rebuilding
 pub mod Owning
 pub mod Levelling
+pub mod Accounted
