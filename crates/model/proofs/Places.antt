@@ -9,3 +9,6 @@ pub mod Rebuilding
 pub mod Owning
 pub mod Levelling
 pub mod Accounted
+pub mod Shallow
+pub mod Keeping
+pub mod Fit

@@ -5,7 +5,7 @@ use mathlib.Core.Bool.{Bool, true, false, _&&_, cond}
 use mathlib.Core.List.{List, [], _∷_}
 use lib.Dec.{T, eqb}
 use lib.ListN.{length, drop, getD}
-use Rattle.lattice.specs.Levels.{Levels}
+use Rattle.lattice.specs.Levels.{Levels, Lawful}
 use Rattle.script.specs.Code.{Code, Script}
 use Rattle.script.specs.Code.Code.{done}
 use Rattle.codec.specs.Frames.{Frame}
@@ -14,6 +14,9 @@ use Rattle.script.specs.Trees.{thread-frames, body-frames, script-frames, head-
 use Rattle.model.specs.Threads.{Open, Pace, Thread, ended, context}
 use Rattle.model.specs.Threads.Open.{in-branch, in-loop, in-lock}
 use Rattle.model.specs.Threads.Pace.{running, idling}
+use Rattle.model.specs.Values.{blank}
+use Rattle.model.specs.Machine.{State, step}
+use Rattle.model.specs.Levels.{Levelled}
 use Rattle.model.specs.Calls.{begin}
 use Rattle.model.specs.Places.{Spot, later-openers, StandsAt, start-spot, ValidThread}
 
@@ -204,6 +207,13 @@ pub record Accounts (k : Levels) (fs r : List Frame) (a : Account) (t : Thread) 
 abbrev pub behind-thread : Script → ℕ → List Frame
 behind-thread sc i = thread-frames (suc i) (drop (suc i) (sc .codes)) (last (length (body-frames sc (last 0 ∷ []))) ∷ [])
 
+-- A run whose every thread has an account, and whose levels are codes of the kind.
+pub record Accountable (k : Levels) (sc : Script) (s : State) : Type 0 where
+  pub long : length (s .threads) ≡ length (sc .codes)
+  pub cells : (x : ℕ) → T (k .has (getD (s .cells) x blank .level))
+  pub coded : (i : ℕ) → Coded k (getD (s .threads) i ended .inside)
+  pub each : (i : ℕ) → i < length (sc .codes) → (a : Account) × Accounts k (script-frames sc) (behind-thread sc i) a (getD (s .threads) i ended)
+
 -- The walk decides what memory says of thread i: it fits exactly if it is the account of a thread of the model that stands in thread i's own frames, and then of one only.
 pub record Places-fit : Type 0 where
   -- The account of a thread that stands there fits.
@@ -221,3 +231,8 @@ pub record Places-fit : Type 0 where
   -- When a run is made, each thread's start is an account of it.
   pub begins : (k : Levels) (sc : Script) (i : ℕ) → i < length (sc .codes) →
       Accounts k (script-frames sc) (behind-thread sc i) (record { spot = start-spot (script-frames sc) i; levels = []; pace = running }) (getD (begin sc .threads) i ended)
+  -- A walk over a valid script has at most 16 blocks open.
+  pub shallow : (kind : ℕ) (k : Levels) (sc : Script) → ValidScript kind k sc → (p : ℕ) → length (around (script-frames sc) p .openers) ≤ 16
+  -- So every thread of a run has an account, which fits: as the run is made, and after every turn.
+  pub starts-so : (k : Levels) (sc : Script) → Lawful k → Levelled k sc → Accountable k sc (begin sc)
+  pub stays-so : (k : Levels) (sc : Script) → Lawful k → Levelled k sc → (s : State) (i : ℕ) → Accountable k sc s → Accountable k sc (step k sc s i)

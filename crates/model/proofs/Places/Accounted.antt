@@ -19,7 +19,7 @@ use Rattle.model.specs.Threads.Open.{in-branch, in-loop, in-lock}
 use Rattle.model.specs.Threads.Pace.{running, idling}
 use Rattle.model.specs.Calls.{begin}
 use Rattle.model.specs.Places.{flatten-inside, Spot, Opened, Stands, StandsAt, start-spot, ValidThread}
-use Rattle.model.specs.Fitting.{Walk, walk-in, frame-at, around, Account, same-places, spot-fits, levels-fit, pace-fits, thread-fits, is-thread-end, contexts, Idles, Accounts, behind-thread, Places-fit}
+use Rattle.model.specs.Fitting.{Walk, walk-in, frame-at, around, Account, same-places, spot-fits, levels-fit, pace-fits, thread-fits, is-thread-end, contexts, Idles, Accounts, behind-thread}
 use Rattle.model.proofs.Tests.{and-left, and-right, both}
 use Rattle.model.proofs.Places.Unique.{flatten-injective, inside-closed, one-code}
 use Rattle.model.proofs.Places.Walking.{Own, met}
@@ -191,7 +191,7 @@ rebuilt kind k sc v i l a fit =
 
 -- Begin and end
 
-walk-begins : (sc : Script) (i : ℕ) → i < length (sc .codes) → around (script-frames sc) (start-spot (script-frames sc) i .place) ≡ walk-in i []
+pub walk-begins : (sc : Script) (i : ℕ) → i < length (sc .codes) → around (script-frames sc) (start-spot (script-frames sc) i .place) ≡ walk-in i []
 walk-begins sc i l = let t = thread-own sc i l in ap (around (script-frames sc)) (t .begins) ∙ t .own .inside
 
 -- Outside every block nothing idles.
@@ -199,16 +199,16 @@ no-idling : (s : Pace) (os : List Open) → os ≡ [] → Idles s os → s ≡ r
 no-idling running os e i = refl
 no-idling (idling n) os e i = absurd (subst (Idles (idling n)) e i)
 
-through : (k : Levels) (fs r : List Frame) (a : Account) (t : Thread) → Accounts k fs r a t → T (is-thread-end (frame-at fs (a .spot .place))) → t ≡ ended
+pub through : (k : Levels) (fs r : List Frame) (a : Account) (t : Thread) → Accounts k fs r a t → T (is-thread-end (frame-at fs (a .spot .place))) → t ≡ ended
 through k fs r a t h e =
     let l = at-last k fs r (a .spot .place) (t .code) (t .inside) (h .stands .stands .here) e in
     let p = no-idling (t .pace) (t .inside) (l .1) (h .idles) in
     λ j. record { code = l .0 j; pace = p j; inside = l .1 j }
 
-at-end : (k : Levels) (fs r : List Frame) (a : Account) (t : Thread) → Accounts k fs r a t → t ≡ ended → T (is-thread-end (frame-at fs (a .spot .place)))
+pub at-end : (k : Levels) (fs r : List Frame) (a : Account) (t : Thread) → Accounts k fs r a t → t ≡ ended → T (is-thread-end (frame-at fs (a .spot .place)))
 at-end k fs r a t h e = last-there k fs r (a .spot .place) (h .stands .stands .here ∙ ap (λ (u : Thread). flatten (u .code) (flatten-inside (u .inside) r)) e)
 
-begin-accounts : (k : Levels) (sc : Script) (i : ℕ) → i < length (sc .codes) →
+pub begin-accounts : (k : Levels) (sc : Script) (i : ℕ) → i < length (sc .codes) →
     Accounts k (script-frames sc) (behind-thread sc i) (record { spot = start-spot (script-frames sc) i; levels = []; pace = running }) (getD (begin sc .threads) i ended)
 begin-accounts k sc i l =
     let fs = script-frames sc in
@@ -216,14 +216,3 @@ begin-accounts k sc i l =
     let here = ap (λ (p : ℕ). drop p fs) (o .begins) ∙ o .own .here in
     subst (Accounts k fs (behind-thread sc i) (record { spot = start-spot fs i; levels = []; pace = running })) (sym (List·getD-map (λ c. at-code c []) (sc .codes) i done))
     (record { stands = record { stands = record { here = here; opened = tt }; idle = tt }; levels = refl; coded = tt; pace = refl; idles = tt })
-
-pub places-fit : Places-fit
-places-fit = record {
-  fits = account-fits;
-  rebuilt = rebuilt;
-  one = one-thread;
-  walk-begins = walk-begins;
-  through = through;
-  at-end = at-end;
-  begins = begin-accounts;
-}

@@ -1,0 +1,19 @@
+-- One walk over a script's frames decides what memory says of a thread.
+use Rattle.model.specs.Fitting.{Places-fit}
+use Rattle.model.proofs.Places.Accounted.{account-fits, rebuilt, one-thread, walk-begins, through, at-end, begin-accounts}
+use Rattle.model.proofs.Places.Shallow.{shallow}
+use Rattle.model.proofs.Places.Keeping.{starts-so, stays-so}
+
+pub places-fit : Places-fit
+places-fit = record {
+  fits = account-fits;
+  rebuilt = rebuilt;
+  one = one-thread;
+  walk-begins = walk-begins;
+  through = through;
+  at-end = at-end;
+  begins = begin-accounts;
+  shallow = shallow;
+  starts-so = starts-so;
+  stays-so = stays-so;
+}
