@@ -18,7 +18,7 @@ use Rattle.model.specs.Values.{blank}
 use Rattle.model.specs.Machine.{State, step}
 use Rattle.model.specs.Levels.{Levelled}
 use Rattle.model.specs.Calls.{begin}
-use Rattle.model.specs.Places.{Spot, later-openers, StandsAt, start-spot, ValidThread}
+use Rattle.model.specs.Places.{Spot, later-openers, Stands, StandsAt, start-spot, ValidThread}
 
 -- The walk
 
@@ -216,6 +216,10 @@ pub record Accountable (k : Levels) (sc : Script) (s : State) : Type 0 where
 
 -- The walk decides what memory says of thread i: it fits exactly if it is the account of a thread of the model that stands in thread i's own frames, and then of one only.
 pub record Places-fit : Type 0 where
+  -- A spot fits thread i of a valid script exactly if some code and open blocks stand there in its own frames.
+  pub stands : (kind : ℕ) (k : Levels) (sc : Script) → ValidScript kind k sc → (i : ℕ) → i < length (sc .codes) → (s : Spot) → T (spot-fits (script-frames sc) i s) →
+      (c : Code) × (os : List Open) × Stands (script-frames sc) (behind-thread sc i) s c os
+  pub spots : (sc : Script) (i : ℕ) → i < length (sc .codes) → (s : Spot) (c : Code) (os : List Open) → Stands (script-frames sc) (behind-thread sc i) s c os → T (spot-fits (script-frames sc) i s)
   -- The account of a thread that stands there fits.
   pub fits : (k : Levels) (sc : Script) (i : ℕ) → i < length (sc .codes) → (a : Account) (t : Thread) → Accounts k (script-frames sc) (behind-thread sc i) a t → T (thread-fits k (script-frames sc) i a)
   -- What fits a valid script is the account of a thread, and that thread is valid.

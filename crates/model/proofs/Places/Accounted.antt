@@ -124,41 +124,72 @@ walk-fits i ps w e =
     subst (λ (x : Walk). T (eqb (x .begun) (suc i) && (eqb (x .ended) i && same-places (x .openers) ps))) (sym e)
     (both (eqb (suc i) (suc i)) _ (eqb-refl (suc i)) (both (eqb i i) _ (eqb-refl i) (same-refl ps)))
 
+pub spots : (sc : Script) (i : ℕ) → i < length (sc .codes) → (s : Spot) (c : Code) (os : List Open) → Stands (script-frames sc) (behind-thread sc i) s c os → T (spot-fits (script-frames sc) i s)
+spots sc i l s c os h =
+    walk-fits i (s .openers) (around (script-frames sc) (s .place)) (met (script-frames sc) (behind-thread sc i) i _ (thread-own sc i l .own) (s .place) (s .openers) c os (h .here) (h .opened))
+
 pub account-fits : (k : Levels) (sc : Script) (i : ℕ) → i < length (sc .codes) → (a : Account) (t : Thread) → Accounts k (script-frames sc) (behind-thread sc i) a t → T (thread-fits k (script-frames sc) i a)
 account-fits k sc i l a t h =
     let fs = script-frames sc in
     let r = behind-thread sc i in
     let s = h .stands .stands in
-    let m = met fs r i _ (thread-own sc i l .own) (a .spot .place) (a .spot .openers) (t .code) (t .inside) (s .here) (s .opened) in
     let levels = subst (λ (ls : List ℕ). T (levels-fit k fs (a .spot .openers) ls)) (sym (h .levels)) (contexts-fit k fs r (a .spot .openers) (t .inside) (s .opened) (h .coded)) in
     let pace = subst (λ (p : Pace). T (pace-fits (frame-at fs (a .spot .place)) p)) (sym (h .pace)) (idles-fit k fs r (a .spot .place) (t .code) (t .pace) (t .inside) (s .here) (h .stands .idle) (h .idles)) in
-    both (spot-fits fs i (a .spot)) _ (walk-fits i (a .spot .openers) (around fs (a .spot .place)) m)
-    (both (levels-fit k fs (a .spot .openers) (a .levels)) _ levels pace)
+    both (spot-fits fs i (a .spot)) _ (spots sc i l (a .spot) (t .code) (t .inside) s) (both (levels-fit k fs (a .spot .openers) (a .levels)) _ levels pace)
 
 -- The parts of fitting.
+record Spot-parts (fs : List Frame) (i : ℕ) (s : Spot) : Type 0 where
+  begun : around fs (s .place) .begun ≡ suc i
+  over : around fs (s .place) .ended ≡ i
+  places : around fs (s .place) .openers ≡ s .openers
+
+spot-parts : (fs : List Frame) (i : ℕ) (s : Spot) → T (spot-fits fs i s) → Spot-parts fs i s
+spot-parts fs i s fit =
+    let w = around fs (s .place) in
+    let ps = s .openers in
+    let counted = eqb (w .ended) i && same-places (w .openers) ps in
+    let inner : T counted = and-right (eqb (w .begun) (suc i)) counted fit in
+    record {
+      begun = eqb→eq (w .begun) (suc i) (and-left (eqb (w .begun) (suc i)) counted fit);
+      over = eqb→eq (w .ended) i (and-left (eqb (w .ended) i) (same-places (w .openers) ps) inner);
+      places = same-is (w .openers) ps (and-right (eqb (w .ended) i) (same-places (w .openers) ps) inner);
+    }
+
 record Parts (k : Levels) (fs : List Frame) (i : ℕ) (a : Account) : Type 0 where
-  begun : around fs (a .spot .place) .begun ≡ suc i
-  over : around fs (a .spot .place) .ended ≡ i
-  places : around fs (a .spot .place) .openers ≡ a .spot .openers
+  spot : T (spot-fits fs i (a .spot))
   levels : T (levels-fit k fs (a .spot .openers) (a .levels))
   pace : T (pace-fits (frame-at fs (a .spot .place)) (a .pace))
 
-fit-parts : (k : Levels) (fs : List Frame) (i : ℕ) (a : Account) → T (thread-fits k fs i a) → Parts k fs i a
-fit-parts k fs i a fit =
-    let w = around fs (a .spot .place) in
-    let ps = a .spot .openers in
+parts : (k : Levels) (fs : List Frame) (i : ℕ) (a : Account) → T (thread-fits k fs i a) → Parts k fs i a
+parts k fs i a fit =
+    let leveled = levels-fit k fs (a .spot .openers) (a .levels) in
     let paced = pace-fits (frame-at fs (a .spot .place)) (a .pace) in
-    let counted = eqb (w .ended) i && same-places (w .openers) ps in
-    let spot : T (spot-fits fs i (a .spot)) = and-left (spot-fits fs i (a .spot)) (levels-fit k fs ps (a .levels) && paced) fit in
-    let rest : T (levels-fit k fs ps (a .levels) && paced) = and-right (spot-fits fs i (a .spot)) (levels-fit k fs ps (a .levels) && paced) fit in
-    let inner : T counted = and-right (eqb (w .begun) (suc i)) counted spot in
-    record {
-      begun = eqb→eq (w .begun) (suc i) (and-left (eqb (w .begun) (suc i)) counted spot);
-      over = eqb→eq (w .ended) i (and-left (eqb (w .ended) i) (same-places (w .openers) ps) inner);
-      places = same-is (w .openers) ps (and-right (eqb (w .ended) i) (same-places (w .openers) ps) inner);
-      levels = and-left (levels-fit k fs ps (a .levels)) paced rest;
-      pace = and-right (levels-fit k fs ps (a .levels)) paced rest;
-    }
+    let rest : T (leveled && paced) = and-right (spot-fits fs i (a .spot)) (leveled && paced) fit in
+    record { spot = and-left (spot-fits fs i (a .spot)) (leveled && paced) fit; levels = and-left leveled paced rest; pace = and-right leveled paced rest }
+
+-- What stands at a spot that fits.
+record Found (sc : Script) (i : ℕ) (s : Spot) : Type 0 where
+  code : Code
+  inside : List Open
+  here : drop (s .place) (script-frames sc) ≡ flatten code (flatten-inside inside (behind-thread sc i))
+  opened : Opened (script-frames sc) (behind-thread sc i) (s .openers) inside
+  valid : ValidThread (head-of sc) (at-code code inside)
+
+find : (kind : ℕ) (k : Levels) (sc : Script) → ValidScript kind k sc → (i : ℕ) → i < length (sc .codes) → (s : Spot) → T (spot-fits (script-frames sc) i s) → Found sc i s
+find kind k sc v i l s fit =
+    let h = head-of sc in
+    let fs = script-frames sc in
+    let r = behind-thread sc i in
+    let t = spot-parts fs i s fit in
+    let own = thread-own sc i l .own in
+    let st = stands-where h fs r i _ own (all-getD (Valid h 0) (sc .codes) i done l (v .codes)) (s .place) (t .begun) (t .over) in
+    let m = met fs r i _ own (s .place) (st .openers) (st .code) (st .inside) (st .stands .here) (st .stands .opened) in
+    let same : st .openers ≡ s .openers = sym (ap (λ (x : Walk). x .openers) m) ∙ t .places in
+    record { code = st .code; inside = st .inside; here = st .stands .here; opened = subst (λ (qs : List ℕ). Opened fs r qs (st .inside)) same (st .stands .opened); valid = st .valid }
+
+pub stands : (kind : ℕ) (k : Levels) (sc : Script) → ValidScript kind k sc → (i : ℕ) → i < length (sc .codes) → (s : Spot) → T (spot-fits (script-frames sc) i s) →
+    (c : Code) × (os : List Open) × Stands (script-frames sc) (behind-thread sc i) s c os
+stands kind k sc v i l s fit = let f = find kind k sc v i l s fit in (f .code, f .inside, record { here = f .here; opened = f .opened })
 
 pub rebuilt : (kind : ℕ) (k : Levels) (sc : Script) → ValidScript kind k sc → (i : ℕ) → i < length (sc .codes) → (a : Account) → T (thread-fits k (script-frames sc) i a) →
     (t : Thread) × Accounts k (script-frames sc) (behind-thread sc i) a t × ValidThread (head-of sc) t
@@ -166,28 +197,21 @@ rebuilt kind k sc v i l a fit =
     let h = head-of sc in
     let fs = script-frames sc in
     let r = behind-thread sc i in
-    let q = a .spot .place in
-    let ps = a .spot .openers in
-    let w = around fs q in
-    let t = fit-parts k fs i a fit in
-    let own = thread-own sc i l .own in
-    let sound = all-getD (Valid h 0) (sc .codes) i done l (v .codes) in
-    let st = stands-where h fs r i _ own sound q (t .begun) (t .over) in
-    let s = st .stands in
-    let m = met fs r i _ own q (st .openers) (st .code) (st .inside) (s .here) (s .opened) in
-    let same : st .openers ≡ ps = sym (ap (λ (x : Walk). x .openers) m) ∙ t .places in
-    let x = levelled k fs r h ps (a .levels) (st .inside) (subst (λ (qs : List ℕ). Opened fs r qs (st .inside)) same (s .opened)) (t .levels) (st .valid .inside) in
-    let here : drop q fs ≡ flatten (st .code) (flatten-inside (x .blocks) r) = s .here ∙ ap (flatten (st .code)) (sym (x .flat)) in
-    let idle = fit-idles k fs r q (st .code) (a .pace) (x .blocks) here (t .pace) in
-    (record { code = st .code; pace = a .pace; inside = x .blocks },
-    record {
-      stands = record { stands = record { here = here; opened = x .opened }; idle = idle .0 };
-      levels = x .levels;
-      coded = x .coded;
-      pace = refl;
-      idles = idle .1;
-    },
-    record { code = subst (λ (d : ℕ). Valid h d (st .code)) (x .long) (st .valid .code); inside = x .valid })
+    let t = parts k fs i a fit in
+    let f = find kind k sc v i l (a .spot) (t .spot) in
+    let x = levelled k fs r h (a .spot .openers) (a .levels) (f .inside) (f .opened) (t .levels) (f .valid .inside) in
+    let here : drop (a .spot .place) fs ≡ flatten (f .code) (flatten-inside (x .blocks) r) = f .here ∙ ap (flatten (f .code)) (sym (x .flat)) in
+    let idle = fit-idles k fs r (a .spot .place) (f .code) (a .pace) (x .blocks) here (t .pace) in (
+      record { code = f .code; pace = a .pace; inside = x .blocks },
+      record {
+        stands = record { stands = record { here = here; opened = x .opened }; idle = idle .0 };
+        levels = x .levels;
+        coded = x .coded;
+        pace = refl;
+        idles = idle .1;
+      },
+      record { code = subst (λ (d : ℕ). Valid h d (f .code)) (x .long) (f .valid .code); inside = x .valid },
+    )
 
 -- Begin and end
 

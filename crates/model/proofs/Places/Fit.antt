@@ -1,11 +1,13 @@
 -- One walk over a script's frames decides what memory says of a thread.
 use Rattle.model.specs.Fitting.{Places-fit}
-use Rattle.model.proofs.Places.Accounted.{account-fits, rebuilt, one-thread, walk-begins, through, at-end, begin-accounts}
+use Rattle.model.proofs.Places.Accounted.{stands, spots, account-fits, rebuilt, one-thread, walk-begins, through, at-end, begin-accounts}
 use Rattle.model.proofs.Places.Shallow.{shallow}
 use Rattle.model.proofs.Places.Keeping.{starts-so, stays-so}
 
 pub places-fit : Places-fit
 places-fit = record {
+  stands = stands;
+  spots = spots;
   fits = account-fits;
   rebuilt = rebuilt;
   one = one-thread;

@@ -132,15 +132,16 @@ module _ (k : Levels) (sc : Script) (law : Lawful k) (lev : Levelled k sc) where
         let fs = script-frames sc in
         let t = getD (s .threads) i ended in
         let u = getD (step k sc s i .threads) i ended in
-        let within : i < length (s .threads) = omega (arith, h .long) in
-        (record { spot = spot-after fs (move k sc s (t .code) (t .pace) (t .inside)) (a .spot); levels = contexts (u .inside); pace = u .pace },
-        record {
-          stands = step-moves k sc fs (behind-thread sc i) s i within (a .spot) (c .stands);
-          levels = refl;
-          coded = coded-after i;
-          pace = refl;
-          idles = step-at-idles k sc s i within (t .code) (t .pace) (t .inside) (c .idles) refl;
-        })
+        let within : i < length (s .threads) = omega (arith, h .long) in (
+          record { spot = spot-after fs (move k sc s (t .code) (t .pace) (t .inside)) (a .spot); levels = contexts (u .inside); pace = u .pace },
+          record {
+            stands = step-moves k sc fs (behind-thread sc i) s i within (a .spot) (c .stands);
+            levels = refl;
+            coded = coded-after i;
+            pace = refl;
+            idles = step-at-idles k sc s i within (t .code) (t .pace) (t .inside) (c .idles) refl;
+          },
+        )
 
     each-after : (j : ℕ) → j < length (sc .codes) → (b : Account) × Accounts k (script-frames sc) (behind-thread sc j) b (getD (step k sc s i .threads) j ended)
     each-after j l = by-test (eqb j i) same other

@@ -92,7 +92,7 @@ module _ (k : Levels) (fs r : List Frame) where
       let x = levelled h ps ls os (o .1) (and-right (level-fits k (frame-at fs p) l (innermost-level ls)) (levels-fit k fs ps ls) t) (v .4) in
       let here = o .0 in
       let same : l ≡ context (x .blocks) =
-          eqb→eq l (context (x .blocks)) (outer-level p l ls (x .blocks) (while e) here (x .levels) (and-left (level-fits k (frame-at fs p) l (innermost-level ls)) (levels-fit k fs ps ls) t)) in
+      eqb→eq l (context (x .blocks)) (outer-level p l ls (x .blocks) (while e) here (x .levels) (and-left (level-fits k (frame-at fs p) l (innermost-level ls)) (levels-fit k fs ps ls) t)) in
       let deep = subst (λ (d : ℕ). T (ltb d 16) × Valid h (suc d) b × Valid h d n) (x .long) (v .0, v .2, v .3) in
       record {
         blocks = in-loop e b n ∷ x .blocks;
@@ -109,7 +109,7 @@ module _ (k : Levels) (fs r : List Frame) where
       let b = o .0 .1 in
       let here = o .0 .2 in
       let same : l ≡ context (x .blocks) =
-          eqb→eq l (context (x .blocks)) (outer-level p l ls (x .blocks) (with m e) here (x .levels) (and-left (level-fits k (frame-at fs p) l (innermost-level ls)) (levels-fit k fs ps ls) t)) in
+      eqb→eq l (context (x .blocks)) (outer-level p l ls (x .blocks) (with m e) here (x .levels) (and-left (level-fits k (frame-at fs p) l (innermost-level ls)) (levels-fit k fs ps ls) t)) in
       let deep = subst (λ (d : ℕ). T (ltb d 16) × Valid h d n) (x .long) (v .0, v .2) in
       record {
         blocks = in-lock m n ∷ x .blocks;

@@ -54,7 +54,7 @@ module _ (fs : List Frame) where
       let h2 = drop-next at-else fs h1 in
       let h3 : drop at-end fs ≡ end-if ∷ flatten n r = drop-flatten d (suc at-else) fs _ h2 in
       let to-end : around fs at-end ≡ opens-at p (around fs p) =
-          across d (suc at-else) _ h2 ∙ over at-else h1 ∙ across c (suc p) _ h0 ∙ over p e in
+      across d (suc at-else) _ h2 ∙ over at-else h1 ∙ across c (suc p) _ h0 ∙ over p e in
       same-around (p + size (branch v c d n)) (suc at-end + size n) (omega arith)
       ∙ across n (suc at-end) r (drop-next at-end fs h3) ∙ over at-end h3 ∙ ap ends-block to-end
   across (loop v c n) p r e =
