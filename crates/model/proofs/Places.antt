@@ -12,3 +12,4 @@ pub mod Accounted
 pub mod Shallow
 pub mod Keeping
 pub mod Fit
+pub mod Whole

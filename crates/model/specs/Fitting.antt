@@ -173,6 +173,11 @@ pace-fits f (idling n) = is-way-end f
 abbrev pub thread-fits : Levels → List Frame → ℕ → Account → Bool
 thread-fits k fs i a = spot-fits fs i (a .spot) && (levels-fit k fs (a .spot .openers) (a .levels) && pace-fits (frame-at fs (a .spot .place)) (a .pace))
 
+-- What memory says of the first n threads fits the frames, each its own.
+unfoldable pub all-fit : Levels → List Frame → (ℕ → Account) → ℕ → Bool
+all-fit k fs f zero = true
+all-fit k fs f (suc n) = all-fit k fs f n && thread-fits k fs n (f n)
+
 -- What it means in the model
 
 -- The context levels inside open blocks, innermost first.
@@ -207,6 +212,11 @@ pub record Accounts (k : Levels) (fs r : List Frame) (a : Account) (t : Thread) 
 abbrev pub behind-thread : Script → ℕ → List Frame
 behind-thread sc i = thread-frames (suc i) (drop (suc i) (sc .codes)) (last (length (body-frames sc (last 0 ∷ []))) ∷ [])
 
+-- Memory's accounts f are of the threads ts, one by one, each in its own frames.
+pub record All-accounts (k : Levels) (sc : Script) (f : ℕ → Account) (ts : List Thread) : Type 0 where
+  pub long : length ts ≡ length (sc .codes)
+  pub each : (i : ℕ) → i < length (sc .codes) → Accounts k (script-frames sc) (behind-thread sc i) (f i) (getD ts i ended)
+
 -- A run whose every thread has an account, and whose levels are codes of the kind.
 pub record Accountable (k : Levels) (sc : Script) (s : State) : Type 0 where
   pub long : length (s .threads) ≡ length (sc .codes)
@@ -227,6 +237,11 @@ pub record Places-fit : Type 0 where
       (t : Thread) × Accounts k (script-frames sc) (behind-thread sc i) a t × ValidThread (head-of sc) t
   -- It is the account of no other thread, whatever frames follow.
   pub one : (k : Levels) (fs r r′ : List Frame) (a : Account) (t u : Thread) → Accounts k fs r a t → Accounts k fs r′ a u → (t ≡ u) × (r ≡ r′)
+  -- The same of all threads together.
+  pub all-fits : (k : Levels) (sc : Script) (f : ℕ → Account) (ts : List Thread) → All-accounts k sc f ts → T (all-fit k (script-frames sc) f (length (sc .codes)))
+  pub all-rebuilt : (kind : ℕ) (k : Levels) (sc : Script) → ValidScript kind k sc → (f : ℕ → Account) → T (all-fit k (script-frames sc) f (length (sc .codes))) →
+      (ts : List Thread) × All-accounts k sc f ts × ((i : ℕ) → i < length (sc .codes) → ValidThread (head-of sc) (getD ts i ended))
+  pub all-one : (k : Levels) (sc : Script) (f : ℕ → Account) (ts us : List Thread) → All-accounts k sc f ts → All-accounts k sc f us → ts ≡ us
   -- A walk comes to thread i's first place with no block open: it may as well begin there.
   pub walk-begins : (sc : Script) (i : ℕ) → i < length (sc .codes) → around (script-frames sc) (start-spot (script-frames sc) i .place) ≡ walk-in i []
   -- The thread is through exactly where the frame at its place ends it.

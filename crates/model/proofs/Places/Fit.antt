@@ -1,6 +1,7 @@
 -- One walk over a script's frames decides what memory says of a thread.
 use Rattle.model.specs.Fitting.{Places-fit}
 use Rattle.model.proofs.Places.Accounted.{stands, spots, account-fits, rebuilt, one-thread, walk-begins, through, at-end, begin-accounts}
+use Rattle.model.proofs.Places.Whole.{all-fits, all-rebuilt, all-one}
 use Rattle.model.proofs.Places.Shallow.{shallow}
 use Rattle.model.proofs.Places.Keeping.{starts-so, stays-so}
 
@@ -11,6 +12,9 @@ places-fit = record {
   fits = account-fits;
   rebuilt = rebuilt;
   one = one-thread;
+  all-fits = all-fits;
+  all-rebuilt = all-rebuilt;
+  all-one = all-one;
   walk-begins = walk-begins;
   through = through;
   at-end = at-end;
