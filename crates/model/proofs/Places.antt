@@ -13,3 +13,4 @@ pub mod Shallow
 pub mod Keeping
 pub mod Fit
 pub mod Whole
+pub mod Stacking

@@ -1,10 +1,10 @@
 -- Whether what memory says of a thread fits a script's frames: found out by one walk over the frames, and what it means in the model.
-use Prim.Native.Nat.{ℕ, zero, suc, _+_, _<_, _≤_}
+use Prim.Native.Nat.{ℕ, zero, suc, _-_, _<_, _≤_}
 use mathlib.Core.Path.{_≡_}
 use mathlib.Core.Bool.{Bool, true, false, _&&_, cond}
 use mathlib.Core.List.{List, [], _∷_}
 use lib.Dec.{T, eqb}
-use lib.ListN.{length, drop, getD}
+use lib.ListN.{length, drop, getD, set}
 use Rattle.lattice.specs.Levels.{Levels, Lawful}
 use Rattle.script.specs.Code.{Code, Script}
 use Rattle.script.specs.Code.Code.{done}
@@ -71,6 +71,11 @@ frame-at fs p = getD fs p (last 0)
 unfoldable pub around : List Frame → ℕ → Walk
 around fs zero = no-walk
 around fs (suc p) = stride p (frame-at fs p) (around fs p)
+
+-- A stack in the first d slots of an array, as a list, innermost first.
+unfoldable pub stacked : List ℕ → ℕ → List ℕ
+stacked xs zero = []
+stacked xs (suc d) = getD xs d 0 ∷ stacked xs d
 
 -- What memory says of a thread
 
@@ -255,3 +260,8 @@ pub record Places-fit : Type 0 where
   -- So every thread of a run has an account, which fits: as the run is made, and after every turn.
   pub starts-so : (k : Levels) (sc : Script) → Lawful k → Levelled k sc → Accountable k sc (begin sc)
   pub stays-so : (k : Levels) (sc : Script) → Lawful k → Levelled k sc → (s : State) (i : ℕ) → Accountable k sc s → Accountable k sc (step k sc s i)
+  -- A walk with its openers in an array: what opening and ending a block do there, and how far its counts go.
+  pub opens : (xs : List ℕ) (d p : ℕ) → d < length xs → stacked (set xs d p) (suc d) ≡ p ∷ stacked xs d
+  pub ends : (xs : List ℕ) (d : ℕ) → stacked xs (d - 1) ≡ later-openers (stacked xs d)
+  pub deep : (xs : List ℕ) (d : ℕ) → length (stacked xs d) ≡ d
+  pub counts : (fs : List Frame) (p : ℕ) → (around fs p .begun ≤ p) × (around fs p .ended ≤ p)

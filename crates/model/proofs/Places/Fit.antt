@@ -2,6 +2,7 @@
 use Rattle.model.specs.Fitting.{Places-fit}
 use Rattle.model.proofs.Places.Accounted.{stands, spots, account-fits, rebuilt, one-thread, walk-begins, through, at-end, begin-accounts}
 use Rattle.model.proofs.Places.Whole.{all-fits, all-rebuilt, all-one}
+use Rattle.model.proofs.Places.Stacking.{opens, ends, deep, counts}
 use Rattle.model.proofs.Places.Shallow.{shallow}
 use Rattle.model.proofs.Places.Keeping.{starts-so, stays-so}
 
@@ -22,4 +23,8 @@ places-fit = record {
   shallow = shallow;
   starts-so = starts-so;
   stays-so = stays-so;
+  opens = opens;
+  ends = ends;
+  deep = deep;
+  counts = counts;
 }
