@@ -7,7 +7,6 @@ use lib.Dec.{T, eqb}
 use lib.ListN.{length, drop, getD, set}
 use Rattle.lattice.specs.Levels.{Levels, Lawful}
 use Rattle.script.specs.Code.{Code, Script}
-use Rattle.script.specs.Code.Code.{done}
 use Rattle.codec.specs.Frames.{Frame}
 use Rattle.codec.specs.Frames.Frame.{header, track, channel, thread, thread-end, if, else, end-if, while, end-while, with, end-with, last}
 use Rattle.script.specs.Trees.{thread-frames, body-frames, script-frames, head-of, ValidScript}

@@ -1,5 +1,5 @@
 -- What memory says of a thread fits a script exactly if it is the account of a thread of the model, and then of one only.
-use Prim.Native.Nat.{ℕ, zero, suc, _<_}
+use Prim.Native.Nat.{ℕ, suc, _<_}
 use native.Mathlib.Omega.{arith}
 use mathlib.Core.Path.{_≡_, refl, sym, _∙_, ap, subst}
 use mathlib.Core.Bool.{Bool, true, false, _&&_}
@@ -8,24 +8,23 @@ use lib.Dec.{T, eqb, eqb→eq, eqb-refl}
 use lib.ListN.{length, drop, getD, List·getD-map}
 use Rattle.std.proofs.shelf.Elements.{all-getD}
 use Rattle.lattice.specs.Levels.{Levels}
-use Rattle.codec.specs.Expressions.{Expr}
 use Rattle.script.specs.Code.{Code, Script}
-use Rattle.script.specs.Code.Code.{done, skip, assign, put, branch, loop, lock}
+use Rattle.script.specs.Code.Code.{done, branch, loop, lock}
 use Rattle.codec.specs.Frames.{Frame}
-use Rattle.codec.specs.Frames.Frame.{thread-end, else, end-if}
+use Rattle.codec.specs.Frames.Frame.{else, end-if}
 use Rattle.script.specs.Trees.{flatten, script-frames, head-of, Valid, ValidScript}
 use Rattle.model.specs.Threads.{Open, Pace, Thread, ended, at-code}
 use Rattle.model.specs.Threads.Open.{in-branch, in-loop, in-lock}
 use Rattle.model.specs.Threads.Pace.{running, idling}
 use Rattle.model.specs.Calls.{begin}
-use Rattle.model.specs.Places.{flatten-inside, Spot, Opened, Stands, StandsAt, start-spot, ValidThread}
+use Rattle.model.specs.Places.{flatten-inside, Spot, Opened, Stands, start-spot, ValidThread}
 use Rattle.model.specs.Fitting.{Walk, walk-in, frame-at, around, Account, same-places, spot-fits, levels-fit, pace-fits, thread-fits, is-thread-end, contexts, Idles, Accounts, behind-thread}
 use Rattle.model.proofs.Tests.{and-left, and-right, both}
 use Rattle.model.proofs.Places.Unique.{flatten-injective, inside-closed, one-code}
-use Rattle.model.proofs.Places.Walking.{Own, met}
-use Rattle.model.proofs.Places.Rebuilding.{Standing, stands-where}
-use Rattle.model.proofs.Places.Owning.{Thread-own, thread-own}
-use Rattle.model.proofs.Places.Levelling.{contexts-fit, Levelled, levelled, idles-fit, fit-idles, at-last, last-there}
+use Rattle.model.proofs.Places.Walking.{met}
+use Rattle.model.proofs.Places.Rebuilding.{stands-where}
+use Rattle.model.proofs.Places.Owning.{thread-own}
+use Rattle.model.proofs.Places.Levelling.{contexts-fit, levelled, idles-fit, fit-idles, at-last, last-there}
 
 -- One thread
 

@@ -2,7 +2,7 @@
 use Prim.Native.Nat.{ℕ, zero, suc, _<_}
 use native.Mathlib.Omega.{arith}
 use mathlib.Core.Path.{_≡_, refl, sym, _∙_, ap, subst}
-use mathlib.Core.Bool.{Bool, true, false, not, cond}
+use mathlib.Core.Bool.{Bool, true, false, cond}
 use mathlib.Core.List.{List, [], _∷_, map}
 use lib.Dec.{T, eqb, eqb→eq, eqb-refl}
 use mathlib.Core.Logic.{_≢_}
@@ -14,15 +14,14 @@ use Rattle.codec.specs.Expressions.{Expr}
 use Rattle.script.specs.Code.{Code, Script}
 use Rattle.script.specs.Code.Code.{done, skip, assign, put, branch, loop, lock}
 use Rattle.script.specs.Trees.{script-frames}
-use Rattle.codec.specs.Frames.{Frame}
 use Rattle.model.specs.Levels.{Levelled}
-use Rattle.model.specs.Values.{Cell, blank, is-zero}
+use Rattle.model.specs.Values.{blank, is-zero}
 use Rattle.model.specs.Threads.{Open, Pace, Thread, ended, at-code}
 use Rattle.model.specs.Threads.Open.{in-branch, in-loop, in-lock}
 use Rattle.model.specs.Threads.Pace.{running, idling}
 use Rattle.model.specs.Machine.{State, value-of, lag, step-at, step, do-put, close-branch}
 use Rattle.model.specs.Calls.{begin}
-use Rattle.model.specs.Places.{StandsAt, spot-after, move, start-spot}
+use Rattle.model.specs.Places.{spot-after, move, start-spot}
 use Rattle.model.specs.Fitting.{Account, Accounts, Accountable, Coded, Idles, contexts, behind-thread}
 use Rattle.model.proofs.Puts.{put-threads}
 use Rattle.model.proofs.Confidential.View.{View, Had}

@@ -1,12 +1,11 @@
 -- Levels and paces: what memory says of them, against open blocks.
-use Prim.Native.Nat.{ℕ, zero, suc, _<_}
+use Prim.Native.Nat.{ℕ, suc}
 use mathlib.Core.Path.{_≡_, refl, sym, _∙_, ap, subst}
-use mathlib.Core.Bool.{Bool, true, false, _&&_, cond}
+use mathlib.Core.Bool.{Bool, true, false}
 use mathlib.Core.List.{List, [], _∷_}
 use lib.Dec.{T, eqb, eqb→eq, eqb-refl, ltb}
-use lib.ListN.{length, drop, getD}
+use lib.ListN.{length, drop}
 use Rattle.lattice.specs.Levels.{Levels}
-use Rattle.codec.specs.Expressions.{Expr}
 use Rattle.script.specs.Code.{Code}
 use Rattle.script.specs.Code.Code.{done, skip, assign, put, branch, loop, lock}
 use Rattle.codec.specs.Frames.{Head, Frame}

@@ -1,14 +1,14 @@
 -- Each thread's own frames in a script's, and what a walk has met where they begin.
 use Prim.Native.Nat.{ℕ, zero, suc, _+_, _<_}
 use native.Mathlib.Omega.{arith}
-use mathlib.Core.Path.{_≡_, refl, sym, _∙_, ap, subst}
+use mathlib.Core.Path.{_≡_, refl, _∙_, ap, subst}
 use mathlib.Core.List.{List, [], _∷_}
 use lib.ListN.{length, drop, getD}
 use Rattle.script.specs.Code.{Code, Script}
 use Rattle.script.specs.Code.Code.{done}
 use Rattle.codec.specs.Frames.{Frame}
-use Rattle.codec.specs.Frames.Frame.{track, channel, thread, thread-end, last}
-use Rattle.script.specs.Trees.{flatten, thread-frames, store-frames, script-frames}
+use Rattle.codec.specs.Frames.Frame.{track, channel, thread, thread-end}
+use Rattle.script.specs.Trees.{thread-frames, store-frames, script-frames}
 use Rattle.model.specs.Places.{starts, start-spot}
 use Rattle.model.specs.Fitting.{Walk, no-walk, walk-in, stride, around, behind-thread}
 use Rattle.model.proofs.Places.Skipping.{size, drop-next, drop-flatten}

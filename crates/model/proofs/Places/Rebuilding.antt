@@ -2,11 +2,10 @@
 use Prim.Native.Nat.{ℕ, zero, suc, _+_, _-_, _<_, _≤_}
 use native.Mathlib.Omega.{arith}
 use mathlib.Core.Path.{_≡_, refl, sym, _∙_, ap, subst}
-use mathlib.Core.Bool.{Bool, true, false}
+use mathlib.Core.Bool.{true, false}
 use mathlib.Core.List.{List, [], _∷_}
 use mathlib.Core.Logic.{_⊎_, inl, inr}
-use lib.ListN.{length, drop, getD}
-use Rattle.codec.specs.Expressions.{Expr}
+use lib.ListN.{length, drop}
 use Rattle.script.specs.Code.{Code}
 use Rattle.script.specs.Code.Code.{done, skip, assign, put, branch, loop, lock}
 use Rattle.codec.specs.Frames.{Head, Frame}
@@ -14,8 +13,8 @@ use Rattle.codec.specs.Frames.Frame.{header, track, channel, thread, thread-end
 use Rattle.script.specs.Trees.{flatten, Valid}
 use Rattle.model.specs.Threads.{Open, at-code}
 use Rattle.model.specs.Threads.Open.{in-branch, in-loop, in-lock}
-use Rattle.model.specs.Places.{flatten-inside, Spot, Opened, Stands, ValidInside, ValidThread}
-use Rattle.model.specs.Fitting.{Walk, walk-in, stride, frame-at, around}
+use Rattle.model.specs.Places.{flatten-inside, Opened, Stands, ValidInside, ValidThread}
+use Rattle.model.specs.Fitting.{Walk, stride, frame-at, around}
 use Rattle.model.proofs.Places.Skipping.{drop-next}
 use Rattle.model.proofs.Places.Walking.{around-next, over, Own, met}
 

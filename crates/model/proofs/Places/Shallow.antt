@@ -1,10 +1,9 @@
 -- A walk over a valid script has at most 16 blocks open.
-use Prim.Native.Nat.{ℕ, zero, suc, _+_, _<_, _≤_}
+use Prim.Native.Nat.{ℕ, zero, suc, _≤_}
 use native.Mathlib.Omega.{arith}
-use mathlib.Core.Path.{_≡_, refl, sym, _∙_, ap, subst}
 use mathlib.Core.List.{List, [], _∷_}
 use lib.Dec.{T, ltb, ltb→lt}
-use lib.ListN.{length, drop, getD}
+use lib.ListN.{length, drop}
 use Rattle.std.specs.shelf.Lists.{All}
 use Rattle.lattice.specs.Levels.{Levels}
 use Rattle.script.specs.Code.{Code, Script}
@@ -13,8 +12,7 @@ use Rattle.codec.specs.Frames.{Head, Frame}
 use Rattle.codec.specs.Frames.Frame.{header, track, channel, thread, thread-end, if, else, end-if, while, end-while, with, end-with, last}
 use Rattle.script.specs.Trees.{flatten, thread-frames, store-frames, script-frames, head-of, Valid, ValidScript}
 use Rattle.model.specs.Places.{later-openers}
-use Rattle.model.specs.Fitting.{Walk, no-walk, stride, frame-at, around}
-use Rattle.model.proofs.Places.Walking.{around-next}
+use Rattle.model.specs.Fitting.{Walk, stride, frame-at, around}
 
 -- One block fewer.
 abbrev less : ℕ → ℕ

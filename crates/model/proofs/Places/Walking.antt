@@ -1,20 +1,19 @@
 -- A walk over frames: what it meets across a stretch, and that a spot's openers are those that it meets.
-use Prim.Native.Nat.{ℕ, zero, suc, _+_, _<_, _≤_}
+use Prim.Native.Nat.{ℕ, zero, suc, _+_}
 use native.Mathlib.Omega.{arith}
-use mathlib.Core.Path.{_≡_, refl, sym, _∙_, ap, subst}
-use mathlib.Core.Bool.{Bool, true, false}
+use mathlib.Core.Path.{_≡_, refl, sym, _∙_, ap}
+use mathlib.Core.Bool.{true, false}
 use mathlib.Core.List.{List, [], _∷_}
-use lib.ListN.{length, drop, getD}
-use Rattle.codec.specs.Expressions.{Expr}
+use lib.ListN.{length, drop}
 use Rattle.script.specs.Code.{Code}
 use Rattle.script.specs.Code.Code.{done, skip, assign, put, branch, loop, lock}
 use Rattle.codec.specs.Frames.{Frame}
-use Rattle.codec.specs.Frames.Frame.{header, track, channel, thread, thread-end, if, else, end-if, while, end-while, with, end-with, last}
+use Rattle.codec.specs.Frames.Frame.{thread, thread-end, else, end-if, end-while, end-with, last}
 use Rattle.script.specs.Trees.{flatten}
 use Rattle.model.specs.Threads.{Open}
 use Rattle.model.specs.Threads.Open.{in-branch, in-loop, in-lock}
-use Rattle.model.specs.Places.{flatten-inside, Spot, Opened, Stands}
-use Rattle.model.specs.Fitting.{Walk, walk-in, stride, frame-at, around, opens-at, ends-block}
+use Rattle.model.specs.Places.{flatten-inside, Opened}
+use Rattle.model.specs.Fitting.{walk-in, stride, frame-at, around, opens-at, ends-block}
 use Rattle.model.proofs.Places.Skipping.{size, drop-next, drop-flatten, frame-here}
 
 -- The frames from a place on tell the place.
