@@ -221,11 +221,15 @@ pub record All-accounts (k : Levels) (sc : Script) (f : ℕ → Account) (ts : L
   pub long : length ts ≡ length (sc .codes)
   pub each : (i : ℕ) → i < length (sc .codes) → Accounts k (script-frames sc) (behind-thread sc i) (f i) (getD ts i ended)
 
--- A run whose every thread has an account, and whose levels are codes of the kind.
+-- A run whose levels are codes of the kind: of every variable, and of every entered branch.
+pub record Coded-run (k : Levels) (s : State) : Type 0 where
+  pub cells : (x : ℕ) → T (k .has (getD (s .cells) x blank .level))
+  pub branches : (i : ℕ) → Coded k (getD (s .threads) i ended .inside)
+
+-- A run whose levels are codes, and whose every thread has an account.
 pub record Accountable (k : Levels) (sc : Script) (s : State) : Type 0 where
   pub long : length (s .threads) ≡ length (sc .codes)
-  pub cells : (x : ℕ) → T (k .has (getD (s .cells) x blank .level))
-  pub coded : (i : ℕ) → Coded k (getD (s .threads) i ended .inside)
+  pub coded : Coded-run k s
   pub each : (i : ℕ) → i < length (sc .codes) → (a : Account) × Accounts k (script-frames sc) (behind-thread sc i) a (getD (s .threads) i ended)
 
 -- The walk decides what memory says of thread i: it fits exactly if it is the account of a thread of the model that stands in thread i's own frames, and then of one only.
@@ -256,6 +260,8 @@ pub record Places-fit : Type 0 where
       Accounts k (script-frames sc) (behind-thread sc i) (record { spot = start-spot (script-frames sc) i; levels = []; pace = running }) (getD (begin sc .threads) i ended)
   -- A walk over a valid script has at most 16 blocks open.
   pub shallow : (kind : ℕ) (k : Levels) (sc : Script) → ValidScript kind k sc → (p : ℕ) → length (around (script-frames sc) p .openers) ≤ 16
+  -- Levels stay codes through every turn.
+  pub stays-coded : (k : Levels) (sc : Script) → Lawful k → Levelled k sc → (s : State) (i : ℕ) → Coded-run k s → Coded-run k (step k sc s i)
   -- So every thread of a run has an account, which fits: as the run is made, and after every turn.
   pub starts-so : (k : Levels) (sc : Script) → Lawful k → Levelled k sc → Accountable k sc (begin sc)
   pub stays-so : (k : Levels) (sc : Script) → Lawful k → Levelled k sc → (s : State) (i : ℕ) → Accountable k sc s → Accountable k sc (step k sc s i)

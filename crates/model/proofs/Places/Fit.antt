@@ -4,7 +4,7 @@ use Rattle.model.proofs.Places.Accounted.{stands, spots, account-fits, rebuilt
 use Rattle.model.proofs.Places.Whole.{all-fits, all-rebuilt, all-one}
 use Rattle.model.proofs.Places.Stacking.{opens, ends, deep, counts}
 use Rattle.model.proofs.Places.Shallow.{shallow}
-use Rattle.model.proofs.Places.Keeping.{starts-so, stays-so}
+use Rattle.model.proofs.Places.Keeping.{stays-coded, starts-so, stays-so}
 
 pub places-fit : Places-fit
 places-fit = record {
@@ -21,6 +21,7 @@ places-fit = record {
   at-end = at-end;
   begins = begin-accounts;
   shallow = shallow;
+  stays-coded = stays-coded;
   starts-so = starts-so;
   stays-so = stays-so;
   opens = opens;

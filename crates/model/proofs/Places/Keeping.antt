@@ -22,7 +22,7 @@ use Rattle.model.specs.Threads.Pace.{running, idling}
 use Rattle.model.specs.Machine.{State, value-of, lag, step-at, step, do-put, close-branch}
 use Rattle.model.specs.Calls.{begin}
 use Rattle.model.specs.Places.{spot-after, move, start-spot}
-use Rattle.model.specs.Fitting.{Account, Accounts, Accountable, Coded, Idles, contexts, behind-thread}
+use Rattle.model.specs.Fitting.{Account, Accounts, Accountable, Coded, Coded-run, Idles, contexts, behind-thread}
 use Rattle.model.proofs.Puts.{put-threads}
 use Rattle.model.proofs.Confidential.View.{View, Had}
 use Rattle.model.proofs.Confidential.Stack.{In, HadStack, Sound, had-pop}
@@ -108,21 +108,20 @@ module _ (k : Levels) (sc : Script) (law : Lawful k) (lev : Levelled k sc) where
   abbrev all-seen : View
   all-seen = record { k = k; sc = sc; seen = λ l. true; law = bounds law; levelled = lev; view = record { open-seen = tt; down = λ a b ha hb f s. tt } }
 
-  sound-of : (s : State) → Accountable k sc s → Sound all-seen (s .cells) (s .threads)
+  sound-of : (s : State) → Coded-run k s → Sound all-seen (s .cells) (s .threads)
   sound-of s h = record {
     cells = record { at = λ x. record { is = h .cells x } };
-    guards = λ i. record { had = record { at = coded-had all-seen (getD (s .threads) i ended .inside) (h .coded i) }; over = λ m x b a s. record { is = tt } };
+    guards = λ i. record { had = record { at = coded-had all-seen (getD (s .threads) i ended .inside) (h .branches i) }; over = λ m x b a s. record { is = tt } };
   }
+
+  pub stays-coded : (s : State) (i : ℕ) → Coded-run k s → Coded-run k (step k sc s i)
+  stays-coded s i h =
+      let after = sound-step all-seen s i (sound-of s h) in
+      record { cells = λ x. after .cells .at x .is; branches = λ j. had-coded all-seen (getD (step k sc s i .threads) j ended .inside) (after .guards j .had) }
 
   module _ (s : State) (i : ℕ) (h : Accountable k sc s) where
     long-after : length (step k sc s i .threads) ≡ length (sc .codes)
     long-after = let t = getD (s .threads) i ended in step-at-long k sc s i (t .code) (t .pace) (t .inside) ∙ h .long
-
-    after : Sound all-seen (step k sc s i .cells) (step k sc s i .threads)
-    after = sound-step all-seen s i (sound-of s h)
-
-    coded-after : (j : ℕ) → Coded k (getD (step k sc s i .threads) j ended .inside)
-    coded-after j = had-coded all-seen (getD (step k sc s i .threads) j ended .inside) (after .guards j .had)
 
     -- The thread that had the turn.
     turned : i < length (sc .codes) → (a : Account) → Accounts k (script-frames sc) (behind-thread sc i) a (getD (s .threads) i ended)
@@ -136,7 +135,7 @@ module _ (k : Levels) (sc : Script) (law : Lawful k) (lev : Levelled k sc) where
           record {
             stands = step-moves k sc fs (behind-thread sc i) s i within (a .spot) (c .stands);
             levels = refl;
-            coded = coded-after i;
+            coded = stays-coded s i (h .coded) .branches i;
             pace = refl;
             idles = step-at-idles k sc s i within (t .code) (t .pace) (t .inside) (c .idles) refl;
           },
@@ -159,7 +158,7 @@ module _ (k : Levels) (sc : Script) (law : Lawful k) (lev : Levelled k sc) where
             (c .0, subst (Accounts k (script-frames sc) (behind-thread sc j) (c .0)) (sym (step-others k sc s i (t .code) (t .pace) (t .inside) j ne)) (c .1))
 
     pub stays-so : Accountable k sc (step k sc s i)
-    stays-so = record { long = long-after; cells = λ x. after .cells .at x .is; coded = coded-after; each = each-after }
+    stays-so = record { long = long-after; coded = stays-coded s i (h .coded); each = each-after }
 
   -- As a run is made.
   blank-coded : (n x : ℕ) → T (k .has (getD (replicate n blank) x blank .level))
@@ -175,7 +174,6 @@ module _ (k : Levels) (sc : Script) (law : Lawful k) (lev : Levelled k sc) where
   pub starts-so : Accountable k sc (begin sc)
   starts-so = record {
     long = length-map (sc .codes) (λ c. at-code c []);
-    cells = blank-coded (sc .variables);
-    coded = begin-coded (sc .codes);
+    coded = record { cells = blank-coded (sc .variables); branches = begin-coded (sc .codes) };
     each = λ i l. (record { spot = start-spot (script-frames sc) i; levels = []; pace = running }, begin-accounts k sc i l);
   }
