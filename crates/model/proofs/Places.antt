@@ -4,3 +4,13 @@ pub mod Skipping
 pub mod Standing
 pub mod Unique
 pub mod Within
+pub mod Walking
+pub mod Rebuilding
+pub mod Owning
+pub mod Levelling
+pub mod Accounted
+pub mod Shallow
+pub mod Keeping
+pub mod Fit
+pub mod Whole
+pub mod Stacking

@@ -19,3 +19,4 @@ pub mod Examples
 pub mod Listing
 pub mod Small
 pub mod Shortcuts
+pub mod Fitting

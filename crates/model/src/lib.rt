@@ -4,6 +4,7 @@ ghost use Rattle.lattice.specs.Orders.{two-point};
 ghost use Rattle.model.specs.Secrecy.{Every-run-is-secret, Every-view-is-blind};
 ghost use Rattle.model.specs.Inspection.{Every-typed-run-is-unaltered};
 ghost use Rattle.model.specs.Places.{Places-agree};
+ghost use Rattle.model.specs.Fitting.{Places-fit};
 ghost use Rattle.model.specs.Follows.{Follows};
 ghost use Rattle.model.specs.Together.{Gives-its-verdicts};
 ghost use Rattle.model.specs.Bottoms.{Bottoms-are-not-read};
@@ -39,6 +40,13 @@ pub fn transparency_stands<S: Scheduler>() -> u8
 // Frames and trees go together: where each thread begins, how each turn moves its place, that a place has one code, that threads stay valid.
 pub fn places_agree() -> u8
     ensures { λ _. ⌜ Places-agree ⌝ }
+{
+    0
+}
+
+// One walk over a script's frames tells whether what memory says of a thread fits: it does exactly if a thread of the model stands there, and then just one.
+pub fn places_fit() -> u8
+    ensures { λ _. ⌜ Places-fit ⌝ }
 {
     0
 }

@@ -115,7 +115,7 @@ module _ (v : View) where
 pub blind : {S : Type 0} {schedule : Meaning S} → Obedient schedule → Every-view-is-blind schedule
 blind {schedule = schedule} obedient k sc law lev seen view g xs ys e = secret-view (record { k = k; sc = sc; seen = seen; law = law; levelled = lev; view = view }) schedule obedient g xs ys e
 
-bounds : {k : Levels} → Lawful k → Bounded k
+pub bounds : {k : Levels} → Lawful k → Bounded k
 bounds law = record { open-has = law .open-has; join-has = law .join-has; join-left = law .join-left; join-right = law .join-right }
 
 -- What one reader sees is a view: open flows to every reader, and flow is transitive.

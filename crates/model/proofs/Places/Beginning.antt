@@ -15,7 +15,7 @@ use Rattle.model.specs.Places.{Stands, StandsAt, starts, start-spot}
 use Rattle.model.proofs.Places.Skipping.{size, drop-next, drop-flatten}
 
 -- No thread begins inside a stretch.
-starts-flatten : (c : Code) (p q : ℕ) (r : List Frame) → p + size c ≡ q → starts p (flatten c r) ≡ starts q r
+pub starts-flatten : (c : Code) (p q : ℕ) (r : List Frame) → p + size c ≡ q → starts p (flatten c r) ≡ starts q r
 starts-flatten done p q r e = ap (λ (x : ℕ). starts x r) (omega arith)
 starts-flatten (skip c) p q r e = starts-flatten c (suc p) q r (omega arith)
 starts-flatten (assign x v c) p q r e = starts-flatten c (suc p) q r (omega arith)
