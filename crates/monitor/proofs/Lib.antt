@@ -1,0 +1,13 @@
+pub mod Loops
+pub mod Blocks
+pub mod Guards
+pub mod Raising
+pub mod Threads
+pub mod Putting
+pub mod Stepping
+pub mod Fits
+pub mod Turns
+pub mod Statuses
+pub mod Advancing
+pub mod Levels
+pub mod Quotients
