@@ -124,7 +124,7 @@ module _ (k : Levels) (table : List Step) (code : List Op) (ss : List ℤ) (c : 
     pub rest-runs : (o : Option ℕ) → o ≡ None → c .turns < 1000000 → Runs sc table code ss (mem (with-turns c (c .turns + 1)) ms es) (take-turn (rules k sc) s (answered o))
     rest-runs o e lt =
         let P : Option ℕ → Type 0 = λ z. Runs sc table code ss (mem (with-turns c (c .turns + 1)) ms es) (take-turn (rules k sc) s (answered z)) in
-        subst P (sym e) (tick (c .turns) sc table code ss c ms es s lt (record { ts = runs .ts; is = runs .is; counted = refl; views = views-later (c .turns) sc table code c ms es (runs .ts) (runs .views) }))
+        subst P (sym e) (tick (c .turns) sc table code ss c ms es s lt (record { ts = runs .ts; is = runs .is; counted = refl; fed = runs .fed; views = views-later (c .turns) sc table code c ms es (runs .ts) (runs .views) }))
 
 -- Turns
 

@@ -18,11 +18,11 @@ use Rattle.codec.specs.Operations.{op-of}
 use Rattle.monitor.specs.Operations.{joined-one, Named}
 use Rattle.monitor.specs.Flat.{nil-cell, nil-port, cell-of, level-of-port, cell-level, track-level}
 
-and-left : (a b : Bool) → T (a && b) → T a
+pub and-left : (a b : Bool) → T (a && b) → T a
 and-left true b t = tt
 and-left false b t = absurd t
 
-and-right : (a b : Bool) → T (a && b) → T b
+pub and-right : (a b : Bool) → T (a && b) → T b
 and-right true b t = t
 and-right false b t = absurd t
 

@@ -11,3 +11,5 @@ pub mod Statuses
 pub mod Advancing
 pub mod Levels
 pub mod Quotients
+pub mod Stacks
+pub mod Readings

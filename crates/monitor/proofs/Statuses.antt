@@ -27,7 +27,7 @@ use Rattle.model.specs.Threads.Pace.{running, idling}
 use Rattle.codec.specs.Frames.{Head, Frame}
 use Rattle.script.specs.Trees.{flatten, script-frames}
 use Rattle.model.specs.Places.{Opened}
-use Rattle.model.proofs.Confidential.Masks.{or-assoc}
+use Rattle.lattice.proofs.Ors.{or-assoc}
 use Rattle.monitor.specs.declared.Kind.{Kind}
 use Rattle.monitor.specs.declared.Kind.the-variants.{Other, End, Skip, Assign, Put, If, Else, EndIf, While, EndWhile, With, EndWith}
 use Rattle.monitor.specs.declared.Step.{Step}
@@ -154,18 +154,18 @@ module _ (most : ℕ) (k : Levels) (sc : Script) (table : List Step) (code : Lis
       let r = reads (head-of-core c) code table (script-frames sc) (v .tabled) (at-now .at) _ here in
       let way = v .tabled .ways (at-now .at) e a b cd _ here in
       let inner = level-inside-is ms (first-mark i) (at-now .depth) os (tv .leveled) in
-      let level = level-is most k sc table code ss c ms es ts v i within _ e (r .2 .ops) in
+      let level = level-is most k sc table code ss c ms es ts v _ e (r .2 .ops) in
       at-kind If _ (tv .paced) (r .0)
       (λ j. choose-status (not (way .fixed j) && not (is-open (k .join (inner j) (level j)))) ((is-open (inner j) && not (is-open (k .join (inner j) (level j)))) && clash (way .needed j) (stands-against j)))
   status-case (loop e b cd) running os tv =
       let r = reads (head-of-core c) code table (script-frames sc) (v .tabled) (at-now .at) _ (tv .stands .stands .here) in
-      let level = level-is most k sc table code ss c ms es ts v i within _ e (r .2 .ops) in
+      let level = level-is most k sc table code ss c ms es ts v _ e (r .2 .ops) in
       at-kind While _ (tv .paced) (r .0) (λ j. choose-status (not (is-open (level j))) false)
   status-case (lock x e b cd) running os tv =
       let r = reads (head-of-core c) code table (script-frames sc) (v .tabled) (at-now .at) _ (tv .stands .stands .here) in
       let inner = level-inside-is ms (first-mark i) (at-now .depth) os (tv .leveled) in
-      let level = level-is most k sc table code ss c ms es ts v i within _ e (r .2 .ops) in
-      let value = value-is most k sc table code ss c ms es ts v i within _ e (r .2 .ops) in
+      let level = level-is most k sc table code ss c ms es ts v _ e (r .2 .ops) in
+      let value = value-is most k sc table code ss c ms es ts v _ e (r .2 .ops) in
       at-kind With _ (tv .paced) (r .0) (λ j. choose-status (not (is-open (level j))) (is-open (inner j) && (is-zero (value j) || clash (r .1 j) (stands-against j))))
 
   pub status-is : status-now k table code ss i c ms ≡ status k sc state-now i

@@ -38,7 +38,7 @@ use Rattle.monitor.specs.declared.Entry.{Entry}
 use Rattle.monitor.specs.declared.Port.{Port}
 use Rattle.monitor.specs.declared.Core.{Core}
 use Rattle.monitor.specs.Table.{nil-mark, step-at-place, bytes-of, Ways, Tabled}
-use Rattle.monitor.specs.Flat.{nil-place, first-mark, pace-at, arrived, beyond, closing, opener-step, opened, branch-level, level-inside, guard-threads, value-at, level-at, cells-of, tracks-of, channels-of, track-levels-of, cell-of, raised, head-of-core, stepped, after-turn, arrive-in, with-cells, with-channels, nil-port, new-entry, added-port, added-entries, entry-of, channel-of, level-of-port, mem, Mem, state-of}
+use Rattle.monitor.specs.Flat.{nil-place, first-mark, pace-at, arrived, beyond, closing, opener-step, opened, branch-level, level-inside, guard-threads, value-at, level-at, cells-of, tracks-of, channels-of, track-levels-of, cell-of, raised, head-of-core, Track-parts, stepped, after-turn, arrive-in, with-cells, with-channels, nil-port, new-entry, added-port, added-entries, entry-of, channel-of, level-of-port, mem, Mem, state-of}
 use Rattle.monitor.specs.Views.{openers, Leveled, spot, ThreadView, Views, Holds-state, size-of-port}
 use Rattle.monitor.proofs.Blocks.{leveled-length, level-inside-is, openers-push, leveled-push, leveled-pop}
 use Rattle.monitor.proofs.Guards.{reads, guard-is}
@@ -92,7 +92,18 @@ module _ (most : ℕ) (sc : Script) (table : List Step) (code : List Op) (c : Co
       let r = reads (head-of-core c) code table (script-frames sc) (v .tabled) ((getD (c .threads) i nil-place) .at) _ here in
       ap (λ (kd : Kind). drop (beyond kd ((step-at-place table (getD (c .threads) i nil-place .at)) .other) ((getD (c .threads) i nil-place) .at)) (script-frames sc)) r ∙ next-place ((getD (c .threads) i nil-place) .at) (script-frames sc) here
 
-module _ (most : ℕ) (k : Levels) (sc : Script) (table : List Step) (code : List Op) (ss : List ℤ) (c : Core) (ms : List Mark) (es : List Entry) (ts : List Thread) (v : Views most sc table code c ms es ts) (i : ℕ) (within : i < c .count) where
+-- Expressions
+
+module _ (most : ℕ) (k : Levels) (sc : Script) (table : List Step) (code : List Op) (ss : List ℤ) (c : Core) (ms : List Mark) (es : List Entry) (ts : List Thread) (v : Views most sc table code c ms es ts) where
+  pub value-is : (bytes : List Op) (e : Expr) → map op-of bytes ≡ e → value-at c ss bytes ≡ value-of k sc (state-of c ss es ts) e
+  value-is bytes e q = ap (λ (x : Expr). top (eval (cells-of c) (tracks-of c ss) x [])) q
+
+  pub level-is : (bytes : List Op) (e : Expr) → map op-of bytes ≡ e → level-at k c bytes ≡ level-of k sc (state-of c ss es ts) e
+  level-is bytes e q = λ j. joined k (λ x. getD (cells-of c) x blank .level) (λ t. getD (sym (v .declares .track-levels) j) t 0) (q j) 0
+
+-- One turn
+
+module _ (most : ℕ) (k : Levels) (sc : Script) (table : List Step) (code : List Op) (ss : List ℤ) (c : Core) (ms : List Mark) (es : List Entry) (ts : List Thread) (v : Views most sc table code c ms es ts) (fed : Track-parts c ss) (i : ℕ) (within : i < c .count) where
   abbrev at-now : Place
   at-now = getD (c .threads) i nil-place
 
@@ -163,6 +174,7 @@ module _ (most : ℕ) (k : Levels) (sc : Script) (table : List Step) (code : Lis
     ts = set ts i t;
     is = e;
     counted = refl;
+    fed = fed;
     views = views-next most sc table code c ms es ts v i within cs (c .channels) ns es p t long (ports-kept most sc table code c ms es ts v) same others tv;
   }
 
@@ -238,13 +250,11 @@ module _ (most : ℕ) (k : Levels) (sc : Script) (table : List Step) (code : Lis
       (moves _ (at-code n os) (arrive-view ms _ (at-now .depth - 1) n os (tv .rest) (next-place (at-now .at) _ (st .here))
       (opened-pop (script-frames sc) (tv .rest) ms (first-mark i) (at-now .depth) _ os (st .opened)) (leveled-pop ms (first-mark i) (at-now .depth) _ os (tv .leveled)) (va .2) (va .3) (omega arith)))
 
-  -- Expressions
+  value-here : (bytes : List Op) (e : Expr) → map op-of bytes ≡ e → value-at c ss bytes ≡ value-of k sc state-now e
+  value-here = value-is most k sc table code ss c ms es ts v
 
-  pub value-is : (bytes : List Op) (e : Expr) → map op-of bytes ≡ e → value-at c ss bytes ≡ value-of k sc state-now e
-  value-is bytes e q = ap (λ (x : Expr). top (eval (cells-of c) (tracks-of c ss) x [])) q
-
-  pub level-is : (bytes : List Op) (e : Expr) → map op-of bytes ≡ e → level-at k c bytes ≡ level-of k sc state-now e
-  level-is bytes e q = λ j. joined k (λ x. getD (cells-of c) x blank .level) (λ t. getD (sym (v .declares .track-levels) j) t 0) (q j) 0
+  level-here : (bytes : List Op) (e : Expr) → map op-of bytes ≡ e → level-at k c bytes ≡ level-of k sc state-now e
+  level-here = level-is most k sc table code ss c ms es ts v
 
   case-assign : (x : ℕ) (e : Expr) (cd : Code) (os : List Open) → View ms at-now (at-code (assign x e cd) os) → Next (at-now .pace) (step-now .kind) (step-at k sc state-now i (assign x e cd) running os)
   unfolding step-at
@@ -260,7 +270,7 @@ module _ (most : ℕ) (k : Levels) (sc : Script) (table : List Step) (code : Lis
           (λ j. guard-threads k table ms (num j) (c .threads) (sym (v .count) j)) ∙ guard-is k (head-of-core c) code table (script-frames sc) (v .tabled) x (omega arith) ms (c .threads) ts all in
       let cell : Cell = record { value = value-at c ss (bytes-of code step-now); level = k .join (level-at k c (bytes-of code step-now)) (guard-threads k table ms (step-now .number) (c .threads) (c .count)) } in
       let new : ModelCell = record { value = value-of k sc state-now e; level = k .join (level-of k sc state-now e) (guard k x ts 0) } in
-      let same : cell-of cell ≡ new = λ j. record { value = value-is _ e (r .2 .ops) j; level = k .join (level-is _ e (r .2 .ops) j) (guarded j) } in
+      let same : cell-of cell ≡ new = λ j. record { value = value-here _ e (r .2 .ops) j; level = k .join (level-here _ e (r .2 .ops) j) (guarded j) } in
       let cells : map cell-of (take (c .variables) (set (c .cells) (step-now .number) cell)) ≡ set (cells-of c) x new =
           cells-set (c .variables) (c .cells) (step-now .number) cell ∙ (λ j. set (cells-of c) (num j) (same j)) in
       at-kind Assign _ (tv .paced) (r .0)
@@ -321,7 +331,7 @@ module _ (most : ℕ) (k : Levels) (sc : Script) (table : List Step) (code : Lis
       let past-here : drop (step-now .other) (script-frames sc) ≡ flatten cd (flatten-inside os (tv .rest)) =
           ap (λ (n : ℕ). drop n (script-frames sc)) (r .1) ∙ past-lands (at-now .at) (script-frames sc) (while e) end-while b _ refl (st .here) in
       at-kind While _ (tv .paced) (r .0)
-      (subst G (sym (value-is _ e (r .2 .ops))) (pick-loop (λ z. set-thread state-now i (cond z (at-code cd os) (at-code b (in-loop e b cd ∷ os)))) (is-zero (value-of k sc state-now e))
+      (subst G (sym (value-here _ e (r .2 .ops))) (pick-loop (λ z. set-thread state-now i (cond z (at-code cd os) (at-code b (in-loop e b cd ∷ os)))) (is-zero (value-of k sc state-now e))
       (moves _ (at-code cd os) (arrive-view ms (step-now .other) (at-now .depth) cd os (tv .rest) past-here (st .opened) (tv .leveled) (va .3) (tv .valid .inside) (tv .deep)))
       (entered (c .cells) (at-now .at + 1) (level-inside ms (first-mark i) (at-now .depth)) (at-code b (in-loop e b cd ∷ os)) _ os (tv .leveled) (va .0) (v .cells)
       (enter-view (at-now .at + 1) _ (in-loop e b cd) b os (tv .rest) (next-place (at-now .at) _ (st .here)) (st .here, st .opened)
@@ -339,7 +349,7 @@ module _ (most : ℕ) (k : Levels) (sc : Script) (table : List Step) (code : Lis
       let l = k .join (context os) (level-of k sc state-now e) in
       let cs = raised k (step-now .assigned) l (c .cells) (c .variables) in
       let marked : ℕ → Bool = λ x. assigns x a || assigns x b in
-      let level : branch-level k code i c ms at-now step-now ≡ l = λ j. k .join (level-inside-is ms (first-mark i) (at-now .depth) os (tv .leveled) j) (level-is _ e (r .2 .ops) j) in
+      let level : branch-level k code i c ms at-now step-now ≡ l = λ j. k .join (level-inside-is ms (first-mark i) (at-now .depth) os (tv .leveled) j) (level-here _ e (r .2 .ops) j) in
       let raises : map cell-of (take (c .variables) cs) ≡ raise k marked l 0 (cells-of c) =
           raised-is k (step-now .assigned) l marked (c .cells) (c .variables) (omega (arith, v .cells)) (λ x lt. way .assigned x (omega arith)) in
       let long : length cs ≡ 64 = raised-length k (step-now .assigned) l (c .cells) (c .variables) ∙ v .cells in
@@ -349,7 +359,7 @@ module _ (most : ℕ) (k : Levels) (sc : Script) (table : List Step) (code : Lis
       let else-here : drop (step-now .other) (script-frames sc) ≡ flatten b (flatten-inside (in-branch l false a b cd ∷ os) (tv .rest)) =
           ap (λ (n : ℕ). drop n (script-frames sc)) (r .1) ∙ past-lands (at-now .at) (script-frames sc) (if e) else a _ refl (st .here) in
       at-kind If _ (tv .paced) (r .0)
-      (subst F (sym level) (subst G (sym (value-is _ e (r .2 .ops))) (pick-way l target (is-zero (value-of k sc state-now e))
+      (subst F (sym level) (subst G (sym (value-here _ e (r .2 .ops))) (pick-way l target (is-zero (value-of k sc state-now e))
       (entered cs (step-now .other) l (at-code b (in-branch l false a b cd ∷ os)) _ os (tv .leveled) (va .0) long
       (enter-view (step-now .other) l (in-branch l false a b cd) b os (tv .rest) else-here ((e, st .here), st .opened) refl (tv .leveled) (va .0) (va .3) (va .0, va .2, va .3, va .4, tv .valid .inside))
       (ap (λ (x : List ModelCell). set-thread (set-cells state-now x) i (at-code b (in-branch l false a b cd ∷ os))) (sym raises)))
@@ -361,7 +371,7 @@ module _ (most : ℕ) (k : Levels) (sc : Script) (table : List Step) (code : Lis
   unfolding step-at
   case-done tv =
       at-kind End _ (tv .paced) (reads (head-of-core c) code table (script-frames sc) (v .tabled) (at-now .at) _ (tv .stands .stands .here))
-      (record { ts = ts; is = refl; counted = refl; views = views-later most sc table code c ms es ts v })
+      (record { ts = ts; is = refl; counted = refl; fed = fed; views = views-later most sc table code c ms es ts v })
 
   abbrev entry-to : ℕ → Entry
   entry-to to =
@@ -388,8 +398,8 @@ module _ (most : ℕ) (k : Levels) (sc : Script) (table : List Step) (code : Lis
       let ch : getD (map (channel-of es) (take n (c .channels))) h unused ≡ channel-of es q =
           getD-map (channel-of es) (take n (c .channels)) h nil-port unused inside ∙ ap (channel-of es) port in
       let lv : context os ≡ level-inside ms (first-mark i) (at-now .depth) = sym (level-inside-is ms (first-mark i) (at-now .depth) os (tv .leveled)) in
-      let vl : value-of k sc state-now e ≡ value-at c ss (bytes-of code step-now) = sym (value-is _ e (r .2 .ops)) in
-      let el : level-of k sc state-now e ≡ level-at k c (bytes-of code step-now) = sym (level-is _ e (r .2 .ops)) in
+      let vl : value-of k sc state-now e ≡ value-at c ss (bytes-of code step-now) = sym (value-here _ e (r .2 .ops)) in
+      let el : level-of k sc state-now e ≡ level-at k c (bytes-of code step-now) = sym (level-here _ e (r .2 .ops)) in
       let t = at-code cd os in
       let same : step-at k sc state-now i (put h e cd) running os ≡ set-thread (cond (k .flows (level-inside ms (first-mark i) (at-now .depth)) (q .level)) (set-channel state-now h (add-entry (q .size) (entry-of (entry-to (q .level))) (channel-of es q))) state-now) i t =
           (λ j. set-thread (cond (k .flows (lv j) (to j)) (set-channel state-now h (add-entry (size j) (record { turn = sym (add-one (c .turns)) j; thread = i; mark = not (k .flows (el j) (to j)); value = cond (k .flows (el j) (to j)) (vl j) (pos 0) }) (ch j))) state-now) i t) in
@@ -406,6 +416,7 @@ module _ (most : ℕ) (k : Levels) (sc : Script) (table : List Step) (code : Lis
         ts = set ts i t;
         is = ap (λ (x : List ModelChannel). record { cells = cells-of c; threads = set ts i t; tracks = tracks-of c ss; channels = x; turns = c .turns }) (sym chs);
         counted = refl;
+        fed = fed;
         views = views-next most sc table code c ms es ts v i within (c .cells) _ ms _ _ t (v .cells) (ports-added n (c .channels) h (entry-to (q .level)) es most (omega arith) below (v .parts) (v .apart) c refl refl long) refl (others-none i ms) view;
       })
       (moves _ t view))))
@@ -445,5 +456,6 @@ tick given sc table code ss c ms es s lt h =
       ts = h .ts;
       is = ap one-more (h .is) ∙ ap (λ (z : ℕ). record { cells = cells-of c; threads = h .ts; tracks = tracks-of c ss; channels = channels-of c es; turns = z }) (ap suc (h .counted) ∙ n);
       counted = refl;
+      fed = h .fed;
       views = record { tabled = v .tabled; declares = record { variables = v .declares .variables; track-levels = v .declares .track-levels; channel-levels = v .declares .channel-levels; channel-sizes = v .declares .channel-sizes; few = v .declares .few; few-variables = v .declares .few-variables; few-tracks = v .declares .few-tracks; few-channels = v .declares .few-channels }; cells = v .cells; places = v .places; ports = v .ports; room = v .room; count = v .count; turns = omega arith; parts = v .parts; apart = v .apart; threads = v .threads };
     })

@@ -25,7 +25,7 @@ module _ (table : List Step) (code : List Op) (ss : List ℤ) (c : Core) (ms : L
   pub turn-of-runs : (k : Levels) (x : Mem) → c .turns < 1000000 → x ≡ after-turn k table code ss i (mem c ms es) → (sc : Script) (s : State) → Runs sc table code ss (mem c ms es) s
       → Runs sc table code ss (mem (with-turns (x .core) (c .turns + 1)) (x .marks) (x .entries)) (take-turn (rules k sc) s (some i))
   turn-of-runs k x more e sc s h =
-      let now = turn-views (c .turns) k sc table code ss c ms es (h .ts) (h .views) i within in
+      let now = turn-views (c .turns) k sc table code ss c ms es (h .ts) (h .views) (h .fed) i within in
       let S : State → Type 0 = λ z. Holds-state (suc (c .turns)) (c .turns) sc table code ss (after-turn k table code ss i (mem c ms es)) (step k sc z i) in
       let X : Mem → Type 0 = λ z. Holds-state (suc (c .turns)) (c .turns) sc table code ss z (step k sc s i) in
       tick (c .turns) sc table code ss (x .core) (x .marks) (x .entries) (step k sc s i) more (subst X (sym e) (subst S (sym (h .is)) now))

@@ -1,6 +1,7 @@
 -- The memory of a run: the state that it stands for, and what a turn does to it.
 use Rattle.codec.specs.declared.expressions.Op.{Op}
 use Rattle.codec.specs.Operations.{op-of}
+use Rattle.monitor.specs.Operations.{made}
 use Prim.Native.Nat.{ℕ, zero, suc, _+_, _-_, _*_, _<_, _≤_}
 use mathlib.Core.Path.{_≡_}
 use mathlib.Core.Bool.{Bool, true, false, _&&_, not, cond}
@@ -78,6 +79,10 @@ Track-parts c ss = (t : ℕ) → t < c .ntracks → (getD (c .tracks) t nil-port
 
 abbrev pub value-at : Core → List ℤ → List Op → ℤ
 value-at c ss bytes = top (eval (cells-of c) (tracks-of c ss) (map op-of bytes) [])
+
+-- What an operation makes of the first n working numbers.
+abbrev pub made-at : Core → List ℤ → Op → ℕ → List ℤ → ℤ
+made-at c ss o n w = made (cells-of c) (tracks-of c ss) (op-of o) (getD w (n - 2) (pos 0)) (getD w (n - 1) (pos 0))
 
 abbrev pub cell-level : Core → ℕ → ℕ
 cell-level c x = getD (cells-of c) x blank .level

@@ -25,7 +25,7 @@ use Rattle.monitor.specs.declared.Port.{Port}
 use Rattle.monitor.specs.declared.Entry.{Entry}
 use Rattle.monitor.specs.declared.Core.{Core}
 use Rattle.monitor.specs.Table.{nil-mark, step-at-place, Tabled}
-use Rattle.monitor.specs.Flat.{nil-place, nil-port, first-mark, pace-at, track-levels-of, level-of-port, head-of-core, Part, Mem, state-of}
+use Rattle.monitor.specs.Flat.{nil-place, nil-port, first-mark, pace-at, track-levels-of, level-of-port, head-of-core, Track-parts, Part, Mem, state-of}
 
 -- The openers of the first d blocks from b on, innermost first.
 abbrev pub openers : List Mark → ℕ → ℕ → List ℕ
@@ -100,6 +100,7 @@ pub record Holds-state (most given : ℕ) (sc : Script) (table : List Step) (cod
   pub ts : List Thread
   pub is : s ≡ state-of (x .core) ss (x .entries) ts
   pub counted : x .core .turns ≡ given
+  pub fed : Track-parts (x .core) ss
   pub views : Views most sc table code (x .core) (x .marks) (x .entries) ts
 
 -- The same between turns: no channel has missed more than there were turns.

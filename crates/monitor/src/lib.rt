@@ -3,18 +3,20 @@ ghost use mathlib.Core.Path.{_≡_};
 ghost use mathlib.Core.Bool.{cond, _||_};
 ghost use lib.Dec.{eqb};
 ghost use Prim.Native.Nat.{ℕ, _+_, _-_, _*_, _<_, _≤_};
+ghost use lib.IntN.{pos};
 ghost use lib.ListN.{length, getD, set};
 ghost use Rattle.monitor.specs.Table.{has-bit, Good, nil-step, nil-mark, bytes-of, step-at-place};
-ghost use Rattle.monitor.specs.Flat.{value-at, level-at, head-of-core, first-mark, level-inside, guard-marks, guard-threads, arrived, with-place, with-cells, raised, raised-cell, nil-place, Sized, Fit, FitAt, Sound-step, mem, after-turn, skipped, assigned, branched, branch-level, opened, closing, opener-step, beyond, Part, Parts, nil-port, with-channels, added-port, added-entries, new-entry, put-core, put-entries, looped, looped-marks, arrive-in, FitNow, Track-parts, cell-level, track-level};
+ghost use Rattle.monitor.specs.Flat.{track-of, tracks-of, made-at, value-at, level-at, head-of-core, first-mark, level-inside, guard-marks, guard-threads, arrived, with-place, with-cells, raised, raised-cell, nil-place, Sized, Fit, FitAt, Sound-step, mem, after-turn, skipped, assigned, branched, branch-level, opened, closing, opener-step, beyond, Part, Parts, nil-port, with-channels, added-port, added-entries, new-entry, put-core, put-entries, looped, looped-marks, arrive-in, FitNow, Track-parts, cell-level, track-level};
 ghost use mathlib.Core.Option.{some};
+ghost use mathlib.Core.List.{[]};
 ghost use Rattle.script.specs.Code.{Script};
 ghost use Rattle.model.specs.Machine.{State, rules, take-turn, choose-status, is-ready as model-ready, is-finished as model-finished};
 ghost use Rattle.monitor.specs.Views.{Runs, Running-mem};
 ghost use Rattle.monitor.specs.Statuses.{status-of, owned-marks, reserved-one, reserved-marks, held-one, against-first, if-status, with-status, status-now};
 ghost use Rattle.monitor.specs.Turns.{Within, All-fit, Ready-list, over-first, Turned, Advanced};
-ghost use Rattle.model.specs.Values.{truth, apply-binary};
-ghost use Rattle.codec.specs.Operations.{op-of, binary-of};
-ghost use Rattle.monitor.specs.Operations.{Room, depth-after, joined-one, Named};
+ghost use Rattle.model.specs.Values.{truth, apply-binary, apply-unary, sample-at};
+ghost use Rattle.codec.specs.Operations.{op-of, binary-of, unary-of};
+ghost use Rattle.monitor.specs.Operations.{joined-one, Named, taken};
 use codec::expressions::{Binary, Op, Unary};
 use lattice::Lattice;
 ghost use Rattle.scheduler.specs.Turns.{answered};
@@ -289,6 +291,34 @@ fn combine(op: Binary, a: i32, b: i32) -> i32
     }
 }
 
+fn alter(op: Unary, a: i32) -> i32
+    ensures { λ r. ⌜ r ≡ apply-unary (unary-of op) a ⌝ }
+{
+    match op {
+        Unary::Negated => a.wrapping_neg(),
+        Unary::Inverted => flag_of(a == 0),
+    }
+}
+
+// Sample n of a track; 0 where it is not yet fed.
+fn fed(samples: &[i32], port: Port, n: usize) -> i32
+    requires { ⌜ port .start + port .count ≤ length (now samples) ⌝ ∗ ⌜ port .count ≤ 2048 ⌝ }
+    ensures { λ r. ⌜ r ≡ getD (track-of (now (samples .entry)) port) n (pos 0) ⌝ }
+{
+    if n < port.count { samples[port.start + n] } else { 0 }
+}
+
+// How many working numbers an operation takes.
+fn operands(op: Op) -> usize
+    ensures { λ r. ⌜ r ≡ taken op ⌝ }
+{
+    match op {
+        Op::Constant(_) | Op::Variable(_) | Op::Held(_) => 0,
+        Op::Sample(_) | Op::One(_) => 1,
+        Op::Two(_) => 2,
+    }
+}
+
 impl Core {
     fn arrive_at(&mut self, i: usize, table: &[Step], at: u16, depth: u8)
         requires { ⌜ i < 8 ⌝ ∗ ⌜ at < length (now table) ⌝ }
@@ -324,57 +354,52 @@ impl Core {
     fn sample(&self, t: u8, index: i32, samples: &[i32]) -> i32
         requires few { ⌜ t < now self .ntracks ⌝ ∗ ⌜ now self .ntracks ≤ 8 ⌝ }
         requires tracks { ⌜ Track-parts (now self) (now samples) ⌝ }
+        ensures { λ r. ⌜ r ≡ sample-at (getD (tracks-of (now (self .entry)) (now (samples .entry))) t []) index ⌝ }
     {
         let port = self.tracks[t as usize];
-        if index < 0 || index as usize >= port.count {
-            0
-        } else {
-            samples[port.start + index as usize]
+        if index < 0 { 0 } else { fed(samples, port, index as usize) }
+    }
+
+    // The number that an operation makes of the first `depth` working numbers.
+    fn made(&self, op: Op, depth: usize, samples: &[i32], work: &[i32]) -> i32
+        requires few { ⌜ now self .variables ≤ 64 ⌝ ∗ ⌜ now self .ntracks ≤ 8 ⌝ }
+        requires tracks { ⌜ Track-parts (now self) (now samples) ⌝ }
+        requires named { ⌜ Named (now self .variables) (now self .ntracks) op ⌝ }
+        requires held { ⌜ taken op ≤ depth ⌝ ∗ ⌜ depth ≤ length (now work) ⌝ }
+        ensures { λ r. ⌜ r ≡ made-at (now (self .entry)) (now (samples .entry)) op depth (now (work .entry)) ⌝ }
+    {
+        match op {
+            Op::Constant(n) => n,
+            Op::Variable(x) => self.cells[x as usize].value,
+            Op::Sample(t) => self.sample(t, work[depth - 1], samples),
+            Op::Held(t) => self.tracks[t as usize].count as i32,
+            Op::Two(two) => combine(two, work[depth - 2], work[depth - 1]),
+            Op::One(one) => alter(one, work[depth - 1]),
         }
     }
 
     // One operation on the first `depth` working numbers; how many there are then.
     fn apply(&self, op: Op, depth: usize, samples: &[i32], work: &mut [i32]) -> usize
         requires few { ⌜ now self .variables ≤ 64 ⌝ ∗ ⌜ now self .ntracks ≤ 8 ⌝ }
-        requires room { ⌜ 16 ≤ length (now work) ⌝ ∗ ⌜ depth ≤ 16 ⌝ ∗ ⌜ Room (now self .variables) (now self .ntracks) op depth ⌝ }
         requires tracks { ⌜ Track-parts (now self) (now samples) ⌝ }
-        ensures { λ r. ⌜ r ≡ depth-after op depth ⌝ }
+        requires named { ⌜ Named (now self .variables) (now self .ntracks) op ⌝ }
+        requires held { ⌜ taken op ≤ depth ⌝ ∗ ⌜ depth ≤ 16 ⌝ }
+        requires room { ⌜ depth - taken op < 16 ⌝ ∗ ⌜ 16 ≤ length (now work) ⌝ }
+        ensures depth { λ r. ⌜ r ≡ depth - taken op + 1 ⌝ }
+        ensures work { λ _. ⌜ now (work .exit) ≡ set (now (work .entry)) (depth - taken op) (made-at (now (self .entry)) (now (samples .entry)) op depth (now (work .entry))) ⌝ }
     {
-        match op {
-            Op::Constant(n) => {
-                work[depth] = n;
-                depth + 1
-            }
-            Op::Variable(x) => {
-                work[depth] = self.cells[x as usize].value;
-                depth + 1
-            }
-            Op::Sample(t) => {
-                work[depth - 1] = self.sample(t, work[depth - 1], samples);
-                depth
-            }
-            Op::Held(t) => {
-                work[depth] = self.tracks[t as usize].count as i32;
-                depth + 1
-            }
-            Op::One(Unary::Negated) => {
-                work[depth - 1] = work[depth - 1].wrapping_neg();
-                depth
-            }
-            Op::One(Unary::Inverted) => {
-                work[depth - 1] = flag_of(work[depth - 1] == 0);
-                depth
-            }
-            Op::Two(pair) => {
-                work[depth - 2] = combine(pair, work[depth - 2], work[depth - 1]);
-                depth - 1
-            }
-        }
+        let made = self.made(op, depth, samples, work);
+        let kept = depth - operands(op);
+        work[kept] = made;
+        kept + 1
     }
 
     // The value of an expression.
     fn value(&self, code: &[Op], samples: &[i32], work: &mut [i32]) -> i32
-        requires { ⌜ Good (head-of-core (now self)) (now code) ⌝ ∗ ⌜ 16 ≤ length (now work) ⌝ }
+        requires few { ⌜ now self .variables ≤ 64 ⌝ ∗ ⌜ now self .ntracks ≤ 8 ⌝ }
+        requires tracks { ⌜ Track-parts (now self) (now samples) ⌝ }
+        requires good { ⌜ Good (head-of-core (now self)) (now code) ⌝ }
+        requires work { ⌜ 16 ≤ length (now work) ⌝ }
         ensures { λ r. ⌜ r ≡ value-at (now (self .entry)) (now (samples .entry)) (now (code .entry)) ⌝ }
     {
         let mut depth = 0;
@@ -422,6 +447,7 @@ impl Core {
         requires sized { ⌜ Sized (now self) (now table) (now marks) ⌝ }
         requires fit { ⌜ FitAt Kind.Assign (now self) (now table) (now code) p st ⌝ }
         requires small { ⌜ i < 8 ⌝ ∗ ⌜ 16 ≤ length (now work) ⌝ }
+        requires tracks { ⌜ Track-parts (now self) (now samples) ⌝ }
         ensures { λ _. ⌜ now (self .exit) ≡ assigned order (now (table .entry)) (now (code .entry)) (now (samples .entry)) i (now (self .entry)) (now (marks .entry)) p st ⌝ }
     {
         let bytes = expression(code, st);
@@ -435,6 +461,7 @@ impl Core {
         requires sized { ⌜ Sized (now self) (now table) (now marks) ⌝ }
         requires fit { ⌜ FitAt Kind.If (now self) (now table) (now code) p st ⌝ }
         requires small { ⌜ i < 8 ⌝ ∗ ⌜ 16 ≤ length (now work) ⌝ }
+        requires tracks { ⌜ Track-parts (now self) (now samples) ⌝ }
         ensures core { λ _. ⌜ now (self .exit) ≡ branched order (now (table .entry)) (now (code .entry)) (now (samples .entry)) i (now (self .entry)) (now (marks .entry)) p st ⌝ }
         ensures marks { λ _. ⌜ now (marks .exit) ≡ opened i (now (marks .entry)) p (branch-level order (now (code .entry)) i (now (self .entry)) (now (marks .entry)) p st) ⌝ }
     {
@@ -483,6 +510,7 @@ impl Core {
         requires fit { ⌜ Sound-step (now self) (now code) st ⌝ ∗ ⌜ st .number < 8 ⌝ }
         requires few { ⌜ now self .variables ≤ 64 ⌝ ∗ ⌜ now self .ntracks ≤ 8 ⌝ }
         requires small { ⌜ i < 8 ⌝ ∗ ⌜ 16 ≤ length (now work) ⌝ ∗ ⌜ now self .turns ≤ 1000000 ⌝ }
+        requires tracks { ⌜ Track-parts (now self) (now samples) ⌝ }
         ensures { λ r. ⌜ r ≡ new-entry order (now (code .entry)) (now (samples .entry)) i (now (self .entry)) st ⌝ }
     {
         let bytes = expression(code, st);
@@ -495,6 +523,7 @@ impl Core {
         requires sized { ⌜ Sized (now self) (now table) (now marks) ⌝ ∗ ⌜ Parts (now self) (now entries) ⌝ }
         requires fit { ⌜ FitAt Kind.Put (now self) (now table) (now code) p st ⌝ ∗ ⌜ p .depth ≤ 16 ⌝ }
         requires small { ⌜ i < 8 ⌝ ∗ ⌜ 16 ≤ length (now work) ⌝ }
+        requires tracks { ⌜ Track-parts (now self) (now samples) ⌝ }
         ensures core { λ _. ⌜ now (self .exit) ≡ put-core order (now (table .entry)) (now (code .entry)) (now (samples .entry)) i (now (self .entry)) (now (marks .entry)) p st ⌝ }
         ensures entries { λ _. ⌜ now (entries .exit) ≡ put-entries order (now (table .entry)) (now (code .entry)) (now (samples .entry)) i (now (self .entry)) (now (marks .entry)) p st (now (entries .entry)) ⌝ }
     {
@@ -520,6 +549,7 @@ impl Core {
         requires sized { ⌜ Sized (now self) (now table) (now marks) ⌝ }
         requires fit { ⌜ FitAt Kind.While (now self) (now table) (now code) p st ⌝ }
         requires small { ⌜ i < 8 ⌝ ∗ ⌜ 16 ≤ length (now work) ⌝ }
+        requires tracks { ⌜ Track-parts (now self) (now samples) ⌝ }
         ensures core { λ _. ⌜ now (self .exit) ≡ looped (now (table .entry)) (now (code .entry)) (now (samples .entry)) i (now (self .entry)) p st ⌝ }
         ensures marks { λ _. ⌜ now (marks .exit) ≡ looped-marks (now (code .entry)) (now (samples .entry)) i (now (self .entry)) (now (marks .entry)) p st ⌝ }
     {
@@ -556,6 +586,7 @@ impl Core {
     fn status_with<K: Lattice>(&self, i: u8, p: Place, st: Step, table: &[Step], code: &[Op], marks: &[Mark], samples: &[i32], work: &mut [i32]) -> Status
         requires sized { ⌜ Sized (now self) (now table) (now marks) ⌝ }
         requires fit { ⌜ Sound-step (now self) (now code) st ⌝ ∗ ⌜ p .depth ≤ 16 ⌝ ∗ ⌜ i < 8 ⌝ ∗ ⌜ 16 ≤ length (now work) ⌝ }
+        requires tracks { ⌜ Track-parts (now self) (now samples) ⌝ }
         ensures { λ r. ⌜ status-of r ≡ with-status order (now (table .entry)) (now (code .entry)) (now (samples .entry)) i (now (self .entry)) (now (marks .entry)) p st ⌝ }
     {
         let bytes = expression(code, st);
@@ -568,6 +599,7 @@ impl Core {
     fn status<K: Lattice>(&self, i: u8, table: &[Step], code: &[Op], marks: &[Mark], samples: &[i32], work: &mut [i32]) -> Status
         requires sized { ⌜ Sized (now self) (now table) (now marks) ⌝ ∗ ⌜ i < now self .count ⌝ ∗ ⌜ 16 ≤ length (now work) ⌝ }
         requires here { ⌜ (let p = getD (now self .threads) i nil-place in let st = step-at-place (now table) (p .at) in FitNow (p .pace) (st .kind) (now self) (now table) (now code) p st) ⌝ }
+        requires tracks { ⌜ Track-parts (now self) (now samples) ⌝ }
         ensures { λ r. ⌜ status-of r ≡ status-now order (now (table .entry)) (now (code .entry)) (now (samples .entry)) i (now (self .entry)) (now (marks .entry)) ⌝ }
     {
         let p = self.threads[i as usize];
@@ -586,6 +618,7 @@ impl Core {
     fn step<K: Lattice>(&mut self, i: usize, table: &[Step], code: &[Op], marks: &mut [Mark], samples: &[i32], entries: &mut [Entry], work: &mut [i32])
         requires fit { ⌜ Fit (now self) (now table) (now code) (now marks) (now entries) i ⌝ }
         requires work { ⌜ 16 ≤ length (now work) ⌝ }
+        requires tracks { ⌜ Track-parts (now self) (now samples) ⌝ }
         ensures { λ _. ⌜ mem (now (self .exit)) (now (marks .exit)) (now (entries .exit)) ≡ after-turn order (now (table .entry)) (now (code .entry)) (now (samples .entry)) i (mem (now (self .entry)) (now (marks .entry)) (now (entries .entry))) ⌝ }
     {
         let p = self.threads[i];
@@ -638,6 +671,7 @@ impl Core {
     fn survey<K: Lattice>(&self, table: &[Step], code: &[Op], marks: &[Mark], samples: &[i32], work: &mut [i32]) -> Survey
         requires fit { ⌜ All-fit (now self) (now table) (now code) (now marks) ⌝ }
         requires work { ⌜ 16 ≤ length (now work) ⌝ }
+        requires tracks { ⌜ Track-parts (now self) (now samples) ⌝ }
         ensures ready { λ r. ⌜ Ready-list order (now (table .entry)) (now (code .entry)) (now (samples .entry)) (now (self .entry)) (now (marks .entry)) (r .ready) (now (self .entry) .count) ⌝ }
         ensures over { λ r. ⌜ r .over ≡ over-first order (now (table .entry)) (now (code .entry)) (now (samples .entry)) (now (self .entry)) (now (marks .entry)) (now (self .entry) .count) ⌝ }
     {

@@ -4,6 +4,7 @@ use Rattle.monitor.proofs.Core.turn_of.Needs as need
 pub step-requires : need.step-requires
 step-requires g c κs = record {
   fit = runs-fit (c .args .table .now) (c .args .code .now) (c .args .samples .now) (c .args .self .now) (c .args .marks .now) (c .args .entries .now) (c .args .i) (c .pre .thread .0) (c .pre .runs);
+  tracks = c .pre .runs .2 .fed;
   work = c .pre .thread .1 .1;
 }
 

@@ -12,6 +12,7 @@ survey-survey-requires g c κs =
     let gone = c .loop-given .inv .1 (r .0) (r .1) (r .2) in
     record {
       fit = all-fit (g .K·Lattice .order) (c .args .table .now) (c .args .code .now) (c .args .samples .now) (c .loop-given .self .core) (c .loop-given .marks) (c .loop-given .entries) (r .0, gone .state, gone .runs);
+      tracks = gone .runs .fed;
       work = omega arith;
     }
 
