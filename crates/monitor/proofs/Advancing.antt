@@ -184,7 +184,7 @@ module _ {G : Type 0} (k : Levels) (schedule : Meaning G) (table : List Step) (c
       let told = schedule h (ready-set (rules k sc) u) in
       let later = advance (rules k sc) schedule m (take-turn (rules k sc) u (told .0)) (told .1) in
       let unroll : advance (rules k sc) schedule (n - given) u h ≡ (suc (later .0), later .1, later .2) =
-          ap (λ (x : ℕ). advance (rules k sc) schedule x u h) e ∙ ap (λ (b : Bool). cond b (0, u, h) (suc (later .0), later .1, later .2)) test in
+      ap (λ (x : ℕ). advance (rules k sc) schedule x u h) e ∙ ap (λ (b : Bool). cond b (0, u, h) (suc (later .0), later .1, later .2)) test in
       let same : later ≡ advance (rules k sc) schedule m (take-turn (rules k sc) u (told .0)) h′ = ap (advance (rules k sc) schedule m (take-turn (rules k sc) u (told .0))) (sym (one .scheduler)) in
       let count : given + suc (later .0) ≡ given + 1 + later .0 = omega arith in
       record {

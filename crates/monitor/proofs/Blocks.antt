@@ -27,7 +27,7 @@ pub level-inside-is : (ms : List Mark) (b d : ℕ) (os : List Open) → Leveled 
 level-inside-is ms b zero [] h = refl
 level-inside-is ms b zero (o ∷ os) h = absurd h
 level-inside-is ms b (suc d) [] h = absurd h
-level-inside-is ms b (suc d) (o ∷ os) h = 
+level-inside-is ms b (suc d) (o ∷ os) h =
     let e : suc d - 1 ≡ d = omega arith in
     let z : eqb (suc d) 0 ≡ false = ne-eqb (suc d) 0 (λ (q : suc d ≡ 0). omega arith) in
     ap (λ (t : Bool). cond t 0 (getD ms (b + (suc d - 1)) nil-mark .level)) z ∙ ap (λ (n : ℕ). getD ms (b + n) nil-mark .level) e ∙ h .0

@@ -163,17 +163,21 @@ module _ (most : ℕ) (sc : Script) (table : List Step) (code : List Op) (c : Co
     fits-case (branch e a b cd) running os tv =
         let here = tv .stands .stands .here in
         let r = reads (head-of-core c) code table (script-frames sc) (v .tabled) (at-now .at) _ here in
-        at-kind If (tv .paced) (r .0)
-        (inside-table (at-now .at + 1) a (in-branch 0 true a b cd ∷ os) (tv .rest) (next-place (at-now .at) _ here),
-        inside-table (step-now .other) b (in-branch 0 false a b cd ∷ os) (tv .rest) (ap (λ (n : ℕ). drop n (script-frames sc)) (r .1) ∙ past-lands (at-now .at) (script-frames sc) (if e) else a _ refl here),
-        shallow os (tv .leveled) (tv .valid .code .0), sound e (r .2))
+        at-kind If (tv .paced) (r .0) (
+          inside-table (at-now .at + 1) a (in-branch 0 true a b cd ∷ os) (tv .rest) (next-place (at-now .at) _ here),
+          inside-table (step-now .other) b (in-branch 0 false a b cd ∷ os) (tv .rest) (ap (λ (n : ℕ). drop n (script-frames sc)) (r .1) ∙ past-lands (at-now .at) (script-frames sc) (if e) else a _ refl here),
+          shallow os (tv .leveled) (tv .valid .code .0),
+          sound e (r .2),
+        )
     fits-case (loop e b cd) running os tv =
         let here = tv .stands .stands .here in
         let r = reads (head-of-core c) code table (script-frames sc) (v .tabled) (at-now .at) _ here in
-        at-kind While (tv .paced) (r .0)
-        (inside-table (at-now .at + 1) b (in-loop e b cd ∷ os) (tv .rest) (next-place (at-now .at) _ here),
-        inside-table (step-now .other) cd os (tv .rest) (ap (λ (n : ℕ). drop n (script-frames sc)) (r .1) ∙ past-lands (at-now .at) (script-frames sc) (while e) end-while b _ refl here),
-        shallow os (tv .leveled) (tv .valid .code .0), sound e (r .2))
+        at-kind While (tv .paced) (r .0) (
+          inside-table (at-now .at + 1) b (in-loop e b cd ∷ os) (tv .rest) (next-place (at-now .at) _ here),
+          inside-table (step-now .other) cd os (tv .rest) (ap (λ (n : ℕ). drop n (script-frames sc)) (r .1) ∙ past-lands (at-now .at) (script-frames sc) (while e) end-while b _ refl here),
+          shallow os (tv .leveled) (tv .valid .code .0),
+          sound e (r .2),
+        )
     fits-case (lock x e b cd) running os tv =
         let here = tv .stands .stands .here in
         let r = reads (head-of-core c) code table (script-frames sc) (v .tabled) (at-now .at) _ here in

@@ -105,11 +105,11 @@ module _ (n : ℕ) (qs : List Port) (h : ℕ) (e : Entry) (es : List Entry) (mos
       ∙ map-set (channel-of es′) (take n qs) h (added-port port)
       ∙ ap (set (map (channel-of es′) (take n qs)) h) (channel-added port e es most (parts h below))
       ∙ set-map-but (channel-of es′) (channel-of es) (take n qs) nil-port h _
-        (λ j lt ne.
-        let jn : j < n = omega arith in
-        let r = getD-take n qs j nil-port jn in
-        let P : Port → Type 0 = λ x. channel-of es′ x ≡ channel-of es x in
-        subst P (sym r) (channel-other port e es most (parts h below) (getD qs j nil-port) (apart h j below jn (λ q. ne (sym q))) (parts j jn .held)))
+      (λ j lt ne.
+      let jn : j < n = omega arith in
+      let r = getD-take n qs j nil-port jn in
+      let P : Port → Type 0 = λ x. channel-of es′ x ≡ channel-of es x in
+      subst P (sym r) (channel-other port e es most (parts h below) (getD qs j nil-port) (apart h j below jn (λ q. ne (sym q))) (parts j jn .held)))
 
   same-field : (f : Port → ℕ) → f (added-port port) ≡ f port → map f (take n (set qs h (added-port port))) ≡ map f (take n qs)
   same-field f same =

@@ -267,12 +267,12 @@ module _ (most : ℕ) (k : Levels) (sc : Script) (table : List Step) (code : Lis
       let all : (j : ℕ) → j < length ts → View-of j = λ j lt. v .threads j (omega (arith, v .count)) in
       let num : step-now .number ≡ x = r .1 in
       let guarded : guard-threads k table ms (step-now .number) (c .threads) (c .count) ≡ guard k x ts 0 =
-          (λ j. guard-threads k table ms (num j) (c .threads) (sym (v .count) j)) ∙ guard-is k (head-of-core c) code table (script-frames sc) (v .tabled) x (omega arith) ms (c .threads) ts all in
+      (λ j. guard-threads k table ms (num j) (c .threads) (sym (v .count) j)) ∙ guard-is k (head-of-core c) code table (script-frames sc) (v .tabled) x (omega arith) ms (c .threads) ts all in
       let cell : Cell = record { value = value-at c ss (bytes-of code step-now); level = k .join (level-at k c (bytes-of code step-now)) (guard-threads k table ms (step-now .number) (c .threads) (c .count)) } in
       let new : ModelCell = record { value = value-of k sc state-now e; level = k .join (level-of k sc state-now e) (guard k x ts 0) } in
       let same : cell-of cell ≡ new = λ j. record { value = value-here _ e (r .2 .ops) j; level = k .join (level-here _ e (r .2 .ops) j) (guarded j) } in
       let cells : map cell-of (take (c .variables) (set (c .cells) (step-now .number) cell)) ≡ set (cells-of c) x new =
-          cells-set (c .variables) (c .cells) (step-now .number) cell ∙ (λ j. set (cells-of c) (num j) (same j)) in
+      cells-set (c .variables) (c .cells) (step-now .number) cell ∙ (λ j. set (cells-of c) (num j) (same j)) in
       at-kind Assign _ (tv .paced) (r .0)
       (plain (set (c .cells) (step-now .number) cell) ms _ (at-code cd os) _ (length-set (c .cells) (step-now .number) cell ∙ v .cells) refl (others-none i ms)
       (arrive-view ms (at-now .at + 1) (at-now .depth) cd os (tv .rest) (next-place (at-now .at) _ (st .here)) (st .opened) (tv .leveled) (tv .valid .code .2) (tv .valid .inside) (tv .deep))
@@ -329,7 +329,7 @@ module _ (most : ℕ) (k : Levels) (sc : Script) (table : List Step) (code : Lis
       let r = reads (head-of-core c) code table (script-frames sc) (v .tabled) (at-now .at) _ (st .here) in
       let G : ℤ → Type 0 = λ z. LoopTo (is-zero z) (set-thread state-now i (cond (is-zero (value-of k sc state-now e)) (at-code cd os) (at-code b (in-loop e b cd ∷ os)))) in
       let past-here : drop (step-now .other) (script-frames sc) ≡ flatten cd (flatten-inside os (tv .rest)) =
-          ap (λ (n : ℕ). drop n (script-frames sc)) (r .1) ∙ past-lands (at-now .at) (script-frames sc) (while e) end-while b _ refl (st .here) in
+      ap (λ (n : ℕ). drop n (script-frames sc)) (r .1) ∙ past-lands (at-now .at) (script-frames sc) (while e) end-while b _ refl (st .here) in
       at-kind While _ (tv .paced) (r .0)
       (subst G (sym (value-here _ e (r .2 .ops))) (pick-loop (λ z. set-thread state-now i (cond z (at-code cd os) (at-code b (in-loop e b cd ∷ os)))) (is-zero (value-of k sc state-now e))
       (moves _ (at-code cd os) (arrive-view ms (step-now .other) (at-now .depth) cd os (tv .rest) past-here (st .opened) (tv .leveled) (va .3) (tv .valid .inside) (tv .deep)))
@@ -351,13 +351,13 @@ module _ (most : ℕ) (k : Levels) (sc : Script) (table : List Step) (code : Lis
       let marked : ℕ → Bool = λ x. assigns x a || assigns x b in
       let level : branch-level k code i c ms at-now step-now ≡ l = λ j. k .join (level-inside-is ms (first-mark i) (at-now .depth) os (tv .leveled) j) (level-here _ e (r .2 .ops) j) in
       let raises : map cell-of (take (c .variables) cs) ≡ raise k marked l 0 (cells-of c) =
-          raised-is k (step-now .assigned) l marked (c .cells) (c .variables) (omega (arith, v .cells)) (λ x lt. way .assigned x (omega arith)) in
+      raised-is k (step-now .assigned) l marked (c .cells) (c .variables) (omega (arith, v .cells)) (λ x lt. way .assigned x (omega arith)) in
       let long : length cs ≡ 64 = raised-length k (step-now .assigned) l (c .cells) (c .variables) ∙ v .cells in
       let target : Bool → State = λ z. set-thread (set-cells state-now (raise k marked l 0 (cells-of c))) i (at-code (cond (not z) a b) (in-branch l (not z) a b cd ∷ os)) in
       let F : ℕ → Type 0 = λ y. BranchTo (is-zero (value-at c ss (bytes-of code step-now))) y (target (is-zero (value-of k sc state-now e))) in
       let G : ℤ → Type 0 = λ z. BranchTo (is-zero z) l (target (is-zero (value-of k sc state-now e))) in
       let else-here : drop (step-now .other) (script-frames sc) ≡ flatten b (flatten-inside (in-branch l false a b cd ∷ os) (tv .rest)) =
-          ap (λ (n : ℕ). drop n (script-frames sc)) (r .1) ∙ past-lands (at-now .at) (script-frames sc) (if e) else a _ refl (st .here) in
+      ap (λ (n : ℕ). drop n (script-frames sc)) (r .1) ∙ past-lands (at-now .at) (script-frames sc) (if e) else a _ refl (st .here) in
       at-kind If _ (tv .paced) (r .0)
       (subst F (sym level) (subst G (sym (value-here _ e (r .2 .ops))) (pick-way l target (is-zero (value-of k sc state-now e))
       (entered cs (step-now .other) l (at-code b (in-branch l false a b cd ∷ os)) _ os (tv .leveled) (va .0) long
@@ -392,21 +392,21 @@ module _ (most : ℕ) (k : Levels) (sc : Script) (table : List Step) (code : Lis
       let inside : h < length (take n (c .channels)) = simp length-take (omega arith) in
       let port : getD (take n (c .channels)) h nil-port ≡ q = getD-take n (c .channels) h nil-port below in
       let to : getD (sc .channel-levels) h 0 ≡ q .level =
-          ap (λ (ls : List ℕ). getD ls h 0) (d .channel-levels) ∙ List·getD-map level-of-port (take n (c .channels)) h nil-port ∙ ap level-of-port port in
+      ap (λ (ls : List ℕ). getD ls h 0) (d .channel-levels) ∙ List·getD-map level-of-port (take n (c .channels)) h nil-port ∙ ap level-of-port port in
       let size : getD (sc .channel-sizes) h 0 ≡ q .size =
-          ap (λ (ls : List ℕ). getD ls h 0) (d .channel-sizes) ∙ List·getD-map size-of-port (take n (c .channels)) h nil-port ∙ ap size-of-port port in
+      ap (λ (ls : List ℕ). getD ls h 0) (d .channel-sizes) ∙ List·getD-map size-of-port (take n (c .channels)) h nil-port ∙ ap size-of-port port in
       let ch : getD (map (channel-of es) (take n (c .channels))) h unused ≡ channel-of es q =
-          getD-map (channel-of es) (take n (c .channels)) h nil-port unused inside ∙ ap (channel-of es) port in
+      getD-map (channel-of es) (take n (c .channels)) h nil-port unused inside ∙ ap (channel-of es) port in
       let lv : context os ≡ level-inside ms (first-mark i) (at-now .depth) = sym (level-inside-is ms (first-mark i) (at-now .depth) os (tv .leveled)) in
       let vl : value-of k sc state-now e ≡ value-at c ss (bytes-of code step-now) = sym (value-here _ e (r .2 .ops)) in
       let el : level-of k sc state-now e ≡ level-at k c (bytes-of code step-now) = sym (level-here _ e (r .2 .ops)) in
       let t = at-code cd os in
       let same : step-at k sc state-now i (put h e cd) running os ≡ set-thread (cond (k .flows (level-inside ms (first-mark i) (at-now .depth)) (q .level)) (set-channel state-now h (add-entry (q .size) (entry-of (entry-to (q .level))) (channel-of es q))) state-now) i t =
-          (λ j. set-thread (cond (k .flows (lv j) (to j)) (set-channel state-now h (add-entry (size j) (record { turn = sym (add-one (c .turns)) j; thread = i; mark = not (k .flows (el j) (to j)); value = cond (k .flows (el j) (to j)) (vl j) (pos 0) }) (ch j))) state-now) i t) in
+      (λ j. set-thread (cond (k .flows (lv j) (to j)) (set-channel state-now h (add-entry (size j) (record { turn = sym (add-one (c .turns)) j; thread = i; mark = not (k .flows (el j) (to j)); value = cond (k .flows (el j) (to j)) (vl j) (pos 0) }) (ch j))) state-now) i t) in
       let A : ℕ → Type 0 = λ x. PutTo x (entry-to (getD (c .channels) x nil-port .level)) (k .flows (level-inside ms (first-mark i) (at-now .depth)) (getD (c .channels) x nil-port .level)) (step-at k sc state-now i (put h e cd) running os) in
       let B : State → Type 0 = λ s. PutTo h (entry-to (q .level)) (k .flows (level-inside ms (first-mark i) (at-now .depth)) (q .level)) s in
       let view : View ms (arrived table (at-now .at + 1) (at-now .depth)) t =
-          arrive-view ms (at-now .at + 1) (at-now .depth) cd os (tv .rest) (next-place (at-now .at) _ (st .here)) (st .opened) (tv .leveled) (tv .valid .code .2) (tv .valid .inside) (tv .deep) in
+      arrive-view ms (at-now .at + 1) (at-now .depth) cd os (tv .rest) (next-place (at-now .at) _ (st .here)) (st .opened) (tv .leveled) (tv .valid .code .2) (tv .valid .inside) (tv .deep) in
       let chs = channels-added n (c .channels) h (entry-to (q .level)) es most (omega arith) below (v .parts) (v .apart) in
       at-kind Put _ (tv .paced) (r .0)
       (subst A (sym (r .1)) (subst B (sym same)

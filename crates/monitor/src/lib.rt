@@ -17,7 +17,9 @@ ghost use Rattle.monitor.specs.Turns.{Within, All-fit, Ready-list, over-first,
 ghost use Rattle.model.specs.Values.{truth, apply-binary, apply-unary, sample-at};
 ghost use Rattle.codec.specs.Operations.{op-of, binary-of, unary-of};
 ghost use Rattle.monitor.specs.Operations.{joined-one, Named, taken};
-use codec::expressions::{Binary, Op, Unary};
+use codec::expressions::Binary;
+use codec::expressions::Op;
+use codec::expressions::Unary;
 use lattice::Lattice;
 ghost use Rattle.scheduler.specs.Turns.{answered};
 use scheduler::Scheduler;
@@ -142,8 +144,16 @@ fn arrive(table: &[Step], at: u16, depth: u8) -> Place
     ensures { λ r. ⌜ r ≡ arrived (now (table .entry)) at depth ⌝ }
 {
     match table[at as usize].kind {
-        Kind::End => Place { at, depth, pace: Pace::Finished },
-        _ => Place { at, depth, pace: Pace::Running },
+        Kind::End => Place {
+            at,
+            depth,
+            pace: Pace::Finished,
+        },
+        _ => Place {
+            at,
+            depth,
+            pace: Pace::Running,
+        },
     }
 }
 
@@ -165,11 +175,22 @@ fn guard_one<K: Lattice>(assigned: u64, level: u32, x: u8, from: u32) -> u32
     requires { ⌜ x < 64 ⌝ }
     ensures { λ r. ⌜ r ≡ cond (has-bit assigned x) (order .join from level) from ⌝ }
 {
-    if bit(assigned, x) { K::join(from, level) } else { from }
+    if bit(assigned, x) {
+        K::join(from, level)
+    } else {
+        from
+    }
 }
 
 // The guard on variable `x` from the first `depth` blocks from `base` on, outermost first.
-fn guard_of<K: Lattice>(table: &[Step], marks: &[Mark], base: usize, depth: u8, x: u8, from: u32) -> u32
+fn guard_of<K: Lattice>(
+    table: &[Step],
+    marks: &[Mark],
+    base: usize,
+    depth: u8,
+    x: u8,
+    from: u32,
+) -> u32
     requires room { ⌜ base + depth ≤ length (now marks) ⌝ ∗ ⌜ base ≤ 128 ⌝ ∗ ⌜ x < 64 ⌝ }
     requires openers { ⌜ ((d : ℕ) → d < depth → getD (now marks) (base + d) nil-mark .opener < length (now table)) ⌝ }
     ensures { λ r. ⌜ r ≡ guard-marks order (now (table .entry)) (now (marks .entry)) x base depth from ⌝ }
@@ -187,7 +208,10 @@ fn raise_cell<K: Lattice>(cell: Cell, mask: u64, x: u8, level: u32) -> Cell
     ensures { λ r. ⌜ r ≡ raised-cell order mask level x cell ⌝ }
 {
     if bit(mask, x) {
-        Cell { value: cell.value, level: K::join(cell.level, level) }
+        Cell {
+            value: cell.value,
+            level: K::join(cell.level, level),
+        }
     } else {
         cell
     }
@@ -244,7 +268,11 @@ fn held(table: &[Step], marks: &[Mark], i: u8, j: u8, p: Place) -> u16
     ensures { λ r. ⌜ r ≡ held-one (now (table .entry)) (now (marks .entry)) i j p ⌝ }
 {
     let base = j as usize * 16;
-    let own = if j == i { 0 } else { owned(table, marks, base, p.depth) };
+    let own = if j == i {
+        0
+    } else {
+        owned(table, marks, base, p.depth)
+    };
     own | reserved(table, marks, base, p.depth)
 }
 
@@ -305,7 +333,11 @@ fn fed(samples: &[i32], port: Port, n: usize) -> i32
     requires { ⌜ port .start + port .count ≤ length (now samples) ⌝ ∗ ⌜ port .count ≤ 2048 ⌝ }
     ensures { λ r. ⌜ r ≡ getD (track-of (now (samples .entry)) port) n (pos 0) ⌝ }
 {
-    if n < port.count { samples[port.start + n] } else { 0 }
+    if n < port.count {
+        samples[port.start + n]
+    } else {
+        0
+    }
 }
 
 // How many working numbers an operation takes.
@@ -335,7 +367,14 @@ impl Core {
     {
         let mut all = 0;
         for i in 0..self.count {
-            all = guard_of::<K>(table, marks, i as usize * 16, self.threads[i as usize].depth, x, all);
+            all = guard_of::<K>(
+                table,
+                marks,
+                i as usize * 16,
+                self.threads[i as usize].depth,
+                x,
+                all,
+            );
         }
         all
     }
@@ -357,7 +396,11 @@ impl Core {
         ensures { λ r. ⌜ r ≡ sample-at (getD (tracks-of (now (self .entry)) (now (samples .entry))) t []) index ⌝ }
     {
         let port = self.tracks[t as usize];
-        if index < 0 { 0 } else { fed(samples, port, index as usize) }
+        if index < 0 {
+            0
+        } else {
+            fed(samples, port, index as usize)
+        }
     }
 
     // The number that an operation makes of the first `depth` working numbers.
@@ -443,7 +486,17 @@ impl Core {
         self.arrive_at(i, table, p.at + 1, p.depth);
     }
 
-    fn assign<K: Lattice>(&mut self, i: usize, p: Place, st: Step, table: &[Step], code: &[Op], marks: &[Mark], samples: &[i32], work: &mut [i32])
+    fn assign<K: Lattice>(
+        &mut self,
+        i: usize,
+        p: Place,
+        st: Step,
+        table: &[Step],
+        code: &[Op],
+        marks: &[Mark],
+        samples: &[i32],
+        work: &mut [i32],
+    )
         requires sized { ⌜ Sized (now self) (now table) (now marks) ⌝ }
         requires fit { ⌜ FitAt Kind.Assign (now self) (now table) (now code) p st ⌝ }
         requires small { ⌜ i < 8 ⌝ ∗ ⌜ 16 ≤ length (now work) ⌝ }
@@ -452,12 +505,25 @@ impl Core {
     {
         let bytes = expression(code, st);
         let value = self.value(bytes, samples, work);
-        let level = K::join(self.level::<K>(bytes), self.guard::<K>(table, marks, st.number));
+        let level = K::join(
+            self.level::<K>(bytes),
+            self.guard::<K>(table, marks, st.number),
+        );
         self.cells[st.number as usize] = Cell { value, level };
         self.arrive_at(i, table, p.at + 1, p.depth);
     }
 
-    fn branch<K: Lattice>(&mut self, i: usize, p: Place, st: Step, table: &[Step], code: &[Op], marks: &mut [Mark], samples: &[i32], work: &mut [i32])
+    fn branch<K: Lattice>(
+        &mut self,
+        i: usize,
+        p: Place,
+        st: Step,
+        table: &[Step],
+        code: &[Op],
+        marks: &mut [Mark],
+        samples: &[i32],
+        work: &mut [i32],
+    )
         requires sized { ⌜ Sized (now self) (now table) (now marks) ⌝ }
         requires fit { ⌜ FitAt Kind.If (now self) (now table) (now code) p st ⌝ }
         requires small { ⌜ i < 8 ⌝ ∗ ⌜ 16 ≤ length (now work) ⌝ }
@@ -470,8 +536,16 @@ impl Core {
         let level = K::join(context_level(marks, base, p.depth), self.level::<K>(bytes));
         let zero = self.value(bytes, samples, work) == 0;
         self.raise::<K>(st.assigned, level);
-        marks[base + p.depth as usize] = Mark { opener: p.at, level };
-        self.arrive_at(i, table, if zero { st.other } else { p.at + 1 }, p.depth + 1);
+        marks[base + p.depth as usize] = Mark {
+            opener: p.at,
+            level,
+        };
+        self.arrive_at(
+            i,
+            table,
+            if zero { st.other } else { p.at + 1 },
+            p.depth + 1,
+        );
     }
 
     fn close(&mut self, i: usize, n: u16, p: Place, st: Step, table: &[Step])
@@ -485,7 +559,11 @@ impl Core {
             };
             self.arrive_at(i, table, to, p.depth - 1);
         } else {
-            self.threads[i] = Place { at: p.at, depth: p.depth, pace: Pace::Idling(n - 1) };
+            self.threads[i] = Place {
+                at: p.at,
+                depth: p.depth,
+                pace: Pace::Idling(n - 1),
+            };
         }
     }
 
@@ -506,7 +584,14 @@ impl Core {
     }
 
     // What a put puts, if it puts anything.
-    fn entry<K: Lattice>(&self, i: usize, st: Step, code: &[Op], samples: &[i32], work: &mut [i32]) -> Entry
+    fn entry<K: Lattice>(
+        &self,
+        i: usize,
+        st: Step,
+        code: &[Op],
+        samples: &[i32],
+        work: &mut [i32],
+    ) -> Entry
         requires fit { ⌜ Sound-step (now self) (now code) st ⌝ ∗ ⌜ st .number < 8 ⌝ }
         requires few { ⌜ now self .variables ≤ 64 ⌝ ∗ ⌜ now self .ntracks ≤ 8 ⌝ }
         requires small { ⌜ i < 8 ⌝ ∗ ⌜ 16 ≤ length (now work) ⌝ ∗ ⌜ now self .turns ≤ 1000000 ⌝ }
@@ -514,12 +599,35 @@ impl Core {
         ensures { λ r. ⌜ r ≡ new-entry order (now (code .entry)) (now (samples .entry)) i (now (self .entry)) st ⌝ }
     {
         let bytes = expression(code, st);
-        let open = K::flows(self.level::<K>(bytes), self.channels[st.number as usize].level);
-        let value = if open { self.value(bytes, samples, work) } else { 0 };
-        Entry { turn: self.turns + 1, thread: i as u8, mark: !open, value }
+        let open = K::flows(
+            self.level::<K>(bytes),
+            self.channels[st.number as usize].level,
+        );
+        let value = if open {
+            self.value(bytes, samples, work)
+        } else {
+            0
+        };
+        Entry {
+            turn: self.turns + 1,
+            thread: i as u8,
+            mark: !open,
+            value,
+        }
     }
 
-    fn put<K: Lattice>(&mut self, i: usize, p: Place, st: Step, table: &[Step], code: &[Op], marks: &[Mark], samples: &[i32], entries: &mut [Entry], work: &mut [i32])
+    fn put<K: Lattice>(
+        &mut self,
+        i: usize,
+        p: Place,
+        st: Step,
+        table: &[Step],
+        code: &[Op],
+        marks: &[Mark],
+        samples: &[i32],
+        entries: &mut [Entry],
+        work: &mut [i32],
+    )
         requires sized { ⌜ Sized (now self) (now table) (now marks) ⌝ ∗ ⌜ Parts (now self) (now entries) ⌝ }
         requires fit { ⌜ FitAt Kind.Put (now self) (now table) (now code) p st ⌝ ∗ ⌜ p .depth ≤ 16 ⌝ }
         requires small { ⌜ i < 8 ⌝ ∗ ⌜ 16 ≤ length (now work) ⌝ }
@@ -528,7 +636,10 @@ impl Core {
         ensures entries { λ _. ⌜ now (entries .exit) ≡ put-entries order (now (table .entry)) (now (code .entry)) (now (samples .entry)) i (now (self .entry)) (now (marks .entry)) p st (now (entries .entry)) ⌝ }
     {
         let h = st.number as usize;
-        if K::flows(context_level(marks, i * 16, p.depth), self.channels[h].level) {
+        if K::flows(
+            context_level(marks, i * 16, p.depth),
+            self.channels[h].level,
+        ) {
             let entry = self.entry::<K>(i, st, code, samples, work);
             self.add_entry(h, entry, entries);
         }
@@ -541,11 +652,24 @@ impl Core {
         ensures core { λ _. ⌜ now (self .exit) ≡ arrive-in (now (table .entry)) i (now (self .entry)) (p .at + 1) (p .depth + 1) ⌝ }
         ensures marks { λ _. ⌜ now (marks .exit) ≡ opened i (now (marks .entry)) p level ⌝ }
     {
-        marks[i * 16 + p.depth as usize] = Mark { opener: p.at, level };
+        marks[i * 16 + p.depth as usize] = Mark {
+            opener: p.at,
+            level,
+        };
         self.arrive_at(i, table, p.at + 1, p.depth + 1);
     }
 
-    fn repeat(&mut self, i: usize, p: Place, st: Step, table: &[Step], code: &[Op], marks: &mut [Mark], samples: &[i32], work: &mut [i32])
+    fn repeat(
+        &mut self,
+        i: usize,
+        p: Place,
+        st: Step,
+        table: &[Step],
+        code: &[Op],
+        marks: &mut [Mark],
+        samples: &[i32],
+        work: &mut [i32],
+    )
         requires sized { ⌜ Sized (now self) (now table) (now marks) ⌝ }
         requires fit { ⌜ FitAt Kind.While (now self) (now table) (now code) p st ⌝ }
         requires small { ⌜ i < 8 ⌝ ∗ ⌜ 16 ≤ length (now work) ⌝ }
@@ -572,7 +696,15 @@ impl Core {
         all
     }
 
-    fn status_if<K: Lattice>(&self, i: u8, p: Place, st: Step, table: &[Step], code: &[Op], marks: &[Mark]) -> Status
+    fn status_if<K: Lattice>(
+        &self,
+        i: u8,
+        p: Place,
+        st: Step,
+        table: &[Step],
+        code: &[Op],
+        marks: &[Mark],
+    ) -> Status
         requires sized { ⌜ Sized (now self) (now table) (now marks) ⌝ }
         requires fit { ⌜ Sound-step (now self) (now code) st ⌝ ∗ ⌜ p .depth ≤ 16 ⌝ ∗ ⌜ i < 8 ⌝ }
         ensures { λ r. ⌜ status-of r ≡ if-status order (now (table .entry)) (now (code .entry)) i (now (self .entry)) (now (marks .entry)) p st ⌝ }
@@ -580,10 +712,23 @@ impl Core {
         let here = context_level(marks, i as usize * 16, p.depth);
         let level = K::join(here, self.level::<K>(expression(code, st)));
         let closed = level != 0;
-        choose_status(!st.fixed & closed, (here == 0) & closed & (st.needed & self.against(i, table, marks) != 0))
+        choose_status(
+            !st.fixed & closed,
+            (here == 0) & closed & (st.needed & self.against(i, table, marks) != 0),
+        )
     }
 
-    fn status_with<K: Lattice>(&self, i: u8, p: Place, st: Step, table: &[Step], code: &[Op], marks: &[Mark], samples: &[i32], work: &mut [i32]) -> Status
+    fn status_with<K: Lattice>(
+        &self,
+        i: u8,
+        p: Place,
+        st: Step,
+        table: &[Step],
+        code: &[Op],
+        marks: &[Mark],
+        samples: &[i32],
+        work: &mut [i32],
+    ) -> Status
         requires sized { ⌜ Sized (now self) (now table) (now marks) ⌝ }
         requires fit { ⌜ Sound-step (now self) (now code) st ⌝ ∗ ⌜ p .depth ≤ 16 ⌝ ∗ ⌜ i < 8 ⌝ ∗ ⌜ 16 ≤ length (now work) ⌝ }
         requires tracks { ⌜ Track-parts (now self) (now samples) ⌝ }
@@ -592,11 +737,22 @@ impl Core {
         let bytes = expression(code, st);
         let zero = self.value(bytes, samples, work) == 0;
         let here = context_level(marks, i as usize * 16, p.depth);
-        choose_status(self.level::<K>(bytes) != 0, (here == 0) & (zero | (st.mask & self.against(i, table, marks) != 0)))
+        choose_status(
+            self.level::<K>(bytes) != 0,
+            (here == 0) & (zero | (st.mask & self.against(i, table, marks) != 0)),
+        )
     }
 
     // Whether a turn may be given to thread i.
-    fn status<K: Lattice>(&self, i: u8, table: &[Step], code: &[Op], marks: &[Mark], samples: &[i32], work: &mut [i32]) -> Status
+    fn status<K: Lattice>(
+        &self,
+        i: u8,
+        table: &[Step],
+        code: &[Op],
+        marks: &[Mark],
+        samples: &[i32],
+        work: &mut [i32],
+    ) -> Status
         requires sized { ⌜ Sized (now self) (now table) (now marks) ⌝ ∗ ⌜ i < now self .count ⌝ ∗ ⌜ 16 ≤ length (now work) ⌝ }
         requires here { ⌜ (let p = getD (now self .threads) i nil-place in let st = step-at-place (now table) (p .at) in FitNow (p .pace) (st .kind) (now self) (now table) (now code) p st) ⌝ }
         requires tracks { ⌜ Track-parts (now self) (now samples) ⌝ }
@@ -608,14 +764,35 @@ impl Core {
             (Pace::Idling(_), _) => Status::Ready,
             (Pace::Finished, _) => Status::Finished,
             (Pace::Running, Kind::If) => self.status_if::<K>(i, p, st, table, code, marks),
-            (Pace::Running, Kind::While) => choose_status(self.level::<K>(expression(code, st)) != 0, false),
-            (Pace::Running, Kind::With) => self.status_with::<K>(i, p, st, table, code, marks, samples, work),
+            (Pace::Running, Kind::While) => choose_status(
+                self.level::<K>(expression(code, st)) != 0,
+                false,
+            ),
+            (Pace::Running, Kind::With) => self.status_with::<K>(
+                i,
+                p,
+                st,
+                table,
+                code,
+                marks,
+                samples,
+                work,
+            ),
             (Pace::Running, _) => Status::Ready,
         }
     }
 
     // One turn of thread i: by its own state and its next frame.
-    fn step<K: Lattice>(&mut self, i: usize, table: &[Step], code: &[Op], marks: &mut [Mark], samples: &[i32], entries: &mut [Entry], work: &mut [i32])
+    fn step<K: Lattice>(
+        &mut self,
+        i: usize,
+        table: &[Step],
+        code: &[Op],
+        marks: &mut [Mark],
+        samples: &[i32],
+        entries: &mut [Entry],
+        work: &mut [i32],
+    )
         requires fit { ⌜ Fit (now self) (now table) (now code) (now marks) (now entries) i ⌝ }
         requires work { ⌜ 16 ≤ length (now work) ⌝ }
         requires tracks { ⌜ Track-parts (now self) (now samples) ⌝ }
@@ -627,21 +804,90 @@ impl Core {
             (Pace::Finished, _) => {}
             (Pace::Idling(n), _) => self.close(i, n, p, st, table),
             (Pace::Running, Kind::Skip) => self.skip(i, p, table),
-            (Pace::Running, Kind::Assign) => self.assign::<K>(i, p, st, table, code, marks, samples, work),
-            (Pace::Running, Kind::If) => self.branch::<K>(i, p, st, table, code, marks, samples, work),
-            (Pace::Running, Kind::Else) => self.close(i, opener(table, marks, i * 16, p.depth).first, p, st, table),
-            (Pace::Running, Kind::EndIf) => self.close(i, opener(table, marks, i * 16, p.depth).second, p, st, table),
-            (Pace::Running, Kind::Put) => self.put::<K>(i, p, st, table, code, marks, samples, entries, work),
-            (Pace::Running, Kind::While) => self.repeat(i, p, st, table, code, marks, samples, work),
-            (Pace::Running, Kind::EndWhile) => self.arrive_at(i, table, marks[i * 16 + (p.depth as usize - 1)].opener, p.depth - 1),
-            (Pace::Running, Kind::With) => self.enter(i, p, context_level(marks, i * 16, p.depth), table, marks),
+            (Pace::Running, Kind::Assign) => self.assign::<K>(
+                i,
+                p,
+                st,
+                table,
+                code,
+                marks,
+                samples,
+                work,
+            ),
+            (Pace::Running, Kind::If) => self.branch::<K>(
+                i,
+                p,
+                st,
+                table,
+                code,
+                marks,
+                samples,
+                work,
+            ),
+            (Pace::Running, Kind::Else) => self.close(
+                i,
+                opener(table, marks, i * 16, p.depth).first,
+                p,
+                st,
+                table,
+            ),
+            (Pace::Running, Kind::EndIf) => self.close(
+                i,
+                opener(table, marks, i * 16, p.depth).second,
+                p,
+                st,
+                table,
+            ),
+            (Pace::Running, Kind::Put) => self.put::<K>(
+                i,
+                p,
+                st,
+                table,
+                code,
+                marks,
+                samples,
+                entries,
+                work,
+            ),
+            (Pace::Running, Kind::While) => self.repeat(
+                i,
+                p,
+                st,
+                table,
+                code,
+                marks,
+                samples,
+                work,
+            ),
+            (Pace::Running, Kind::EndWhile) => self.arrive_at(
+                i,
+                table,
+                marks[i * 16 + (p.depth as usize - 1)].opener,
+                p.depth - 1,
+            ),
+            (Pace::Running, Kind::With) => self.enter(
+                i,
+                p,
+                context_level(marks, i * 16, p.depth),
+                table,
+                marks,
+            ),
             (Pace::Running, Kind::EndWith) => self.arrive_at(i, table, p.at + 1, p.depth - 1),
             (Pace::Running, Kind::Other | Kind::End) => {}
         }
     }
 
     // A turn given to thread i, and counted.
-    fn turn_of<K: Lattice>(&mut self, i: usize, table: &[Step], code: &[Op], marks: &mut [Mark], samples: &[i32], entries: &mut [Entry], work: &mut [i32])
+    fn turn_of<K: Lattice>(
+        &mut self,
+        i: usize,
+        table: &[Step],
+        code: &[Op],
+        marks: &mut [Mark],
+        samples: &[i32],
+        entries: &mut [Entry],
+        work: &mut [i32],
+    )
         requires runs { ⌜ Running-mem (now table) (now code) (now samples) (mem (now self) (now marks) (now entries)) ⌝ }
         requires thread { ⌜ i < now self .count ⌝ ∗ ⌜ now self .turns < 1000000 ⌝ ∗ ⌜ 16 ≤ length (now work) ⌝ }
         ensures { λ _. ⌜ ((sc : Script) (s : State) → Runs sc (now (table .entry)) (now (code .entry)) (now (samples .entry)) (mem (now (self .entry)) (now (marks .entry)) (now (entries .entry))) s → Runs sc (now (table .entry)) (now (code .entry)) (now (samples .entry)) (mem (now (self .exit)) (now (marks .exit)) (now (entries .exit))) (take-turn (rules order sc) s (some i))) ⌝ }
@@ -652,7 +898,16 @@ impl Core {
     }
 
     // The turn of a thread, or a rest.
-    fn take<K: Lattice>(&mut self, chosen: Option<u8>, table: &[Step], code: &[Op], marks: &mut [Mark], samples: &[i32], entries: &mut [Entry], work: &mut [i32])
+    fn take<K: Lattice>(
+        &mut self,
+        chosen: Option<u8>,
+        table: &[Step],
+        code: &[Op],
+        marks: &mut [Mark],
+        samples: &[i32],
+        entries: &mut [Entry],
+        work: &mut [i32],
+    )
         requires runs { ⌜ Running-mem (now table) (now code) (now samples) (mem (now self) (now marks) (now entries)) ⌝ }
         requires chosen { ⌜ Within chosen (now self .count) ⌝ }
         requires turns { ⌜ now self .turns < 1000000 ⌝ }
@@ -668,7 +923,14 @@ impl Core {
     }
 
     // The status of every thread.
-    fn survey<K: Lattice>(&self, table: &[Step], code: &[Op], marks: &[Mark], samples: &[i32], work: &mut [i32]) -> Survey
+    fn survey<K: Lattice>(
+        &self,
+        table: &[Step],
+        code: &[Op],
+        marks: &[Mark],
+        samples: &[i32],
+        work: &mut [i32],
+    ) -> Survey
         requires fit { ⌜ All-fit (now self) (now table) (now code) (now marks) ⌝ }
         requires work { ⌜ 16 ≤ length (now work) ⌝ }
         requires tracks { ⌜ Track-parts (now self) (now samples) ⌝ }
@@ -719,7 +981,16 @@ pub struct Run<K: Lattice, S: Scheduler> {
 
 impl<K: Lattice, S: Scheduler> Run<K, S> {
     // The turn of the thread that the scheduler names, or a rest.
-    fn turn(&mut self, ready: [bool; 8], table: &[Step], code: &[Op], marks: &mut [Mark], samples: &[i32], entries: &mut [Entry], work: &mut [i32])
+    fn turn(
+        &mut self,
+        ready: [bool; 8],
+        table: &[Step],
+        code: &[Op],
+        marks: &mut [Mark],
+        samples: &[i32],
+        entries: &mut [Entry],
+        work: &mut [i32],
+    )
         requires runs { ⌜ Running-mem (now table) (now code) (now samples) (mem (now self .core) (now marks) (now entries)) ⌝ }
         requires ready { ⌜ Ready-list order (now table) (now code) (now samples) (now self .core) (now marks) ready (now self .core .count) ⌝ }
         requires turns { ⌜ now self .core .turns < 1000000 ⌝ }
@@ -728,11 +999,21 @@ impl<K: Lattice, S: Scheduler> Run<K, S> {
     {
         let count = self.core.count as usize;
         let chosen = self.scheduler.choose(&ready[0..count]);
-        self.core.take::<K>(chosen, table, code, marks, samples, entries, work);
+        self.core
+            .take::<K>(chosen, table, code, marks, samples, entries, work);
     }
 
     // Up to n turns; how many were given.
-    pub fn advance(&mut self, n: u32, table: &[Step], code: &[Op], marks: &mut [Mark], samples: &[i32], entries: &mut [Entry], work: &mut [i32]) -> u32
+    pub fn advance(
+        &mut self,
+        n: u32,
+        table: &[Step],
+        code: &[Op],
+        marks: &mut [Mark],
+        samples: &[i32],
+        entries: &mut [Entry],
+        work: &mut [i32],
+    ) -> u32
         requires runs { ⌜ Running-mem (now table) (now code) (now samples) (mem (now self .core) (now marks) (now entries)) ⌝ }
         requires work { ⌜ 16 ≤ length (now work) ⌝ }
         ensures { λ r. ⌜ ((sc : Script) (s : State) → Runs sc (now (table .entry)) (now (code .entry)) (now (samples .entry)) (mem (now (self .entry) .core) (now (marks .entry)) (now (entries .entry))) s → Advanced order meaning (now (table .entry)) (now (code .entry)) (now (samples .entry)) n r (mem (now (self .exit) .core) (now (marks .exit)) (now (entries .exit))) (now (self .entry) .scheduler) (now (self .exit) .scheduler) sc s) ⌝ }

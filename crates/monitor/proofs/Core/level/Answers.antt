@@ -33,9 +33,10 @@ loop-op-again g c =
     let tl = track-level (c .args .self .now) in
     let o = getD code i (Constant (pos 0)) in
     let more = drop-more code i (Constant (pos 0)) (c .loop-op-test .taken) in
-    let P : List Op → Type 0 = λ os. T (declared (head-of-core (c .args .self .now)) (map op-of os)) in
-    (named-first (head-of-core (c .args .self .now)) o (drop (i + 1) code) (subst P more (c .loop-op .inv .0)) .1,
-    ap (joined k vl tl (map op-of (drop (i + 1) code))) (c .level-one-all .ensures) ∙ sym (joined-more k vl tl o (drop (i + 1) code) (c .loop-op .all)) ∙ ap (λ (os : List Op). joined k vl tl (map op-of os) (c .loop-op .all)) (sym more) ∙ c .loop-op .inv .1)
+    let P : List Op → Type 0 = λ os. T (declared (head-of-core (c .args .self .now)) (map op-of os)) in (
+      named-first (head-of-core (c .args .self .now)) o (drop (i + 1) code) (subst P more (c .loop-op .inv .0)) .1,
+      ap (joined k vl tl (map op-of (drop (i + 1) code))) (c .level-one-all .ensures) ∙ sym (joined-more k vl tl o (drop (i + 1) code) (c .loop-op .all)) ∙ ap (λ (os : List Op). joined k vl tl (map op-of os) (c .loop-op .all)) (sym more) ∙ c .loop-op .inv .1,
+    )
 
 pub returns : need.returns
 returns g c =

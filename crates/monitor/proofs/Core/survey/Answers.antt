@@ -16,7 +16,8 @@ pub loop-i-again : need.loop-i-again
 loop-i-again g c =
     let few = c .pre .fit .sized .few in
     let long = c .loop-i .inv .1 in
-    let lt : c .loop-i .i < length (c .loop-i .ready) = omega arith in
-    (answers-more _ (c .loop-i .ready) (c .loop-i .i) (c .is-ready .result) lt (c .loop-i .inv .0) (c .is-ready .ensures ∙ ap is-ready (c .status-status .ensures)),
-    length-set (c .loop-i .ready) (c .loop-i .i) (c .is-ready .result) ∙ long,
-    (λ j. c .loop-i .inv .2 j && (c .is-finished-over .ensures ∙ ap is-finished (c .status-status .ensures)) j) ∙ sym (all-more _ (c .loop-i .i)))
+    let lt : c .loop-i .i < length (c .loop-i .ready) = omega arith in (
+      answers-more _ (c .loop-i .ready) (c .loop-i .i) (c .is-ready .result) lt (c .loop-i .inv .0) (c .is-ready .ensures ∙ ap is-ready (c .status-status .ensures)),
+      length-set (c .loop-i .ready) (c .loop-i .i) (c .is-ready .result) ∙ long,
+      (λ j. c .loop-i .inv .2 j && (c .is-finished-over .ensures ∙ ap is-finished (c .status-status .ensures)) j) ∙ sym (all-more _ (c .loop-i .i)),
+    )

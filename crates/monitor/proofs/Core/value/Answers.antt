@@ -60,14 +60,15 @@ loop-op-again c =
     let r = room-first o os n (c .loop-op .inv .2) (subst L more (c .loop-op .inv .1)) in
     let depth = c .apply-depth .ensures .depth in
     let work = c .apply-depth .ensures .work in
-    let long : length (c .apply-depth .last .work) ≡ length w = ap length work ∙ length-set w _ _ in
-    (named-first (head-of-core s) o os (subst D more (c .loop-op .inv .0)) .1,
-    subst N (sym depth) (r .later),
-    (let room = r .room in omega arith),
-    (let before = c .loop-op .inv .3 in omega arith),
-    (λ j. eval cells tracks (map op-of os) (stack (depth j) (work j)))
-    ∙ eval-more cells tracks o os n w (r .few) (c .loop-op .inv .2) (r .room) (c .loop-op .inv .3)
-    ∙ ap (λ (z : List Op). eval cells tracks (map op-of z) (stack n w)) (sym more) ∙ c .loop-op .inv .4)
+    let long : length (c .apply-depth .last .work) ≡ length w = ap length work ∙ length-set w _ _ in (
+      named-first (head-of-core s) o os (subst D more (c .loop-op .inv .0)) .1,
+      subst N (sym depth) (r .later),
+      (let room = r .room in omega arith),
+      (let before = c .loop-op .inv .3 in omega arith),
+      (λ j. eval cells tracks (map op-of os) (stack (depth j) (work j)))
+          ∙ eval-more cells tracks o os n w (r .few) (c .loop-op .inv .2) (r .room) (c .loop-op .inv .3)
+          ∙ ap (λ (z : List Op). eval cells tracks (map op-of z) (stack n w)) (sym more) ∙ c .loop-op .inv .4,
+    )
 
 pub returns : need.returns
 returns c =

@@ -33,11 +33,12 @@ turn-requires g c κs =
     }
 
 pub loop-given-again : need.loop-given-again
-loop-given-again g c =
-    (omega (arith, c .loop-given-test .taken),
-    λ sc s runs.
-    gone-more (g .K·Lattice .order) (g .S·Scheduler .meaning) (c .args .table .now) (c .args .code .now) (c .args .samples .now) (c .args .n) (c .loop-given .given) (c .loop-given .self .core) (c .loop-given .marks) (c .loop-given .entries) _ (c .args .self .now .scheduler) (c .loop-given .self .scheduler) _
-    (c .survey-survey .result .over) sc s (c .loop-given-test .taken) (c .survey-survey .ensures .over) (c .if-stops .ensures tt) (c .turn .ensures) (c .loop-given .inv .1 sc s runs))
+loop-given-again g c = (
+  omega (arith, c .loop-given-test .taken),
+  λ sc s runs.
+      gone-more (g .K·Lattice .order) (g .S·Scheduler .meaning) (c .args .table .now) (c .args .code .now) (c .args .samples .now) (c .args .n) (c .loop-given .given) (c .loop-given .self .core) (c .loop-given .marks) (c .loop-given .entries) _ (c .args .self .now .scheduler) (c .loop-given .self .scheduler) _
+      (c .survey-survey .result .over) sc s (c .loop-given-test .taken) (c .survey-survey .ensures .over) (c .if-stops .ensures tt) (c .turn .ensures) (c .loop-given .inv .1 sc s runs),
+)
 
 pub returns : need.returns
 returns g c = λ sc s runs.
