@@ -17,6 +17,7 @@ use Rattle.model.specs.Values.{blank, eval, top, joined, is-zero, Cell as Model
 use Rattle.model.specs.Threads.{Thread}
 use Rattle.model.specs.Machine.{Channel, State, Entry as ModelEntry}
 use Rattle.codec.specs.Frames.{Head}
+use Rattle.monitor.specs.declared.stack.Stack.{Stack}
 use Rattle.monitor.specs.declared.Kind.{Kind}
 use Rattle.monitor.specs.declared.Kind.the-variants.{Other, End, Skip, Assign, Put, If, Else, EndIf, While, EndWhile, With, EndWith}
 use Rattle.monitor.specs.declared.Step.{Step}
@@ -80,9 +81,9 @@ Track-parts c ss = (t : ℕ) → t < c .ntracks → (getD (c .tracks) t nil-port
 abbrev pub value-at : Core → List ℤ → List Op → ℤ
 value-at c ss bytes = top (eval (cells-of c) (tracks-of c ss) (map op-of bytes) [])
 
--- What an operation makes of the first n working numbers.
-abbrev pub made-at : Core → List ℤ → Op → ℕ → List ℤ → ℤ
-made-at c ss o n w = made (cells-of c) (tracks-of c ss) (op-of o) (getD w (n - 2) (pos 0)) (getD w (n - 1) (pos 0))
+-- What an operation makes of the working numbers.
+abbrev pub made-at : Core → List ℤ → Op → Stack → List ℤ → ℤ
+made-at c ss o s w = made (cells-of c) (tracks-of c ss) (op-of o) (getD w (s .base + (s .held - 2)) (pos 0)) (getD w (s .base + (s .held - 1)) (pos 0))
 
 abbrev pub cell-level : Core → ℕ → ℕ
 cell-level c x = getD (cells-of c) x blank .level

@@ -1,5 +1,5 @@
 -- An operation of an expression, as the model has it, and what one does.
-use Prim.Native.Nat.{ℕ, zero, suc, _<_}
+use Prim.Native.Nat.{ℕ, zero, suc, _+_, _<_}
 use mathlib.Core.List.{List, [], _∷_}
 use lib.IntN.{ℤ, pos}
 use lib.ListN.{length, getD}
@@ -37,10 +37,10 @@ joined-one k vl tl (held t) acc = k .join acc (tl t)
 joined-one k vl tl (binary b) acc = acc
 joined-one k vl tl (unary u) acc = acc
 
--- The first n numbers of the work memory, as a stack.
-abbrev pub stack : ℕ → List ℤ → List ℤ
-stack zero w = []
-stack (suc n) w = getD w n (pos 0) ∷ stack n w
+-- The n working numbers from slot b on, the top first.
+abbrev pub numbers-from : ℕ → ℕ → List ℤ → List ℤ
+numbers-from b zero w = []
+numbers-from b (suc n) w = getD w (b + n) (pos 0) ∷ numbers-from b n w
 
 -- What an operation names, of so many variables and tracks.
 abbrev pub Named : ℕ → ℕ → Op → Type 0

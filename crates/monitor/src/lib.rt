@@ -17,12 +17,15 @@ ghost use Rattle.monitor.specs.Turns.{Within, All-fit, Ready-list, over-first,
 ghost use Rattle.model.specs.Values.{truth, apply-binary, apply-unary, sample-at};
 ghost use Rattle.codec.specs.Operations.{op-of, binary-of, unary-of};
 ghost use Rattle.monitor.specs.Operations.{joined-one, Named, taken};
+pub mod stack;
+
 use codec::expressions::Binary;
 use codec::expressions::Op;
 use codec::expressions::Unary;
 use lattice::Lattice;
 ghost use Rattle.scheduler.specs.Turns.{answered};
 use scheduler::Scheduler;
+use stack::Stack;
 use std::marker::PhantomData;
 
 #[derive(Clone, Copy)]
@@ -157,7 +160,25 @@ fn arrive(table: &[Step], at: u16, depth: u8) -> Place
     }
 }
 
-// The place level of a thread with `depth` open blocks, the first of them at `base`.
+// The open blocks of a thread: a stack of marks from slot `base` on.
+fn open_blocks(base: usize, depth: u8) -> Stack
+    ensures { λ r. ⌜ r ≡ record { base = base; held = depth } ⌝ }
+{
+    Stack {
+        base,
+        held: depth as usize,
+    }
+}
+
+// The innermost of them.
+fn innermost(marks: &[Mark], base: usize, depth: u8) -> Mark
+    requires { ⌜ 0 < depth ⌝ ∗ ⌜ base + depth ≤ length (now marks) ⌝ }
+    ensures { λ r. ⌜ r ≡ getD (now (marks .entry)) (base + (depth - 1)) nil-mark ⌝ }
+{
+    open_blocks(base, depth).item(marks, 1)
+}
+
+// The context level of a thread with `depth` open blocks, the first of them at `base`.
 fn context_level(marks: &[Mark], base: usize, depth: u8) -> u32
     requires { ⌜ base + depth ≤ length (now marks) ⌝ }
     requires { ⌜ base ≤ 128 ⌝ }
@@ -166,7 +187,7 @@ fn context_level(marks: &[Mark], base: usize, depth: u8) -> u32
     if depth == 0 {
         0
     } else {
-        marks[base + (depth as usize - 1)].level
+        innermost(marks, base, depth).level
     }
 }
 
@@ -222,7 +243,7 @@ fn opener(table: &[Step], marks: &[Mark], base: usize, depth: u8) -> Step
     requires { ⌜ base ≤ 128 ⌝ ∗ ⌜ 0 < depth ⌝ ∗ ⌜ base + depth ≤ length (now marks) ⌝ ∗ ⌜ getD (now marks) (base + (depth - 1)) nil-mark .opener < length (now table) ⌝ }
     ensures { λ r. ⌜ r ≡ opener-step (now (table .entry)) (now (marks .entry)) base depth ⌝ }
 {
-    table[marks[base + (depth as usize - 1)].opener as usize]
+    table[innermost(marks, base, depth).opener as usize]
 }
 
 fn owned(table: &[Step], marks: &[Mark], base: usize, depth: u8) -> u16
@@ -403,38 +424,36 @@ impl Core {
         }
     }
 
-    // The number that an operation makes of the first `depth` working numbers.
-    fn made(&self, op: Op, depth: usize, samples: &[i32], work: &[i32]) -> i32
+    // The number that an operation makes of the working numbers.
+    fn made(&self, op: Op, numbers: Stack, samples: &[i32], work: &[i32]) -> i32
         requires few { ⌜ now self .variables ≤ 64 ⌝ ∗ ⌜ now self .ntracks ≤ 8 ⌝ }
         requires tracks { ⌜ Track-parts (now self) (now samples) ⌝ }
         requires named { ⌜ Named (now self .variables) (now self .ntracks) op ⌝ }
-        requires held { ⌜ taken op ≤ depth ⌝ ∗ ⌜ depth ≤ length (now work) ⌝ }
-        ensures { λ r. ⌜ r ≡ made-at (now (self .entry)) (now (samples .entry)) op depth (now (work .entry)) ⌝ }
+        requires held { ⌜ taken op ≤ numbers .held ⌝ ∗ ⌜ numbers .base + numbers .held ≤ length (now work) ⌝ }
+        ensures { λ r. ⌜ r ≡ made-at (now (self .entry)) (now (samples .entry)) op numbers (now (work .entry)) ⌝ }
     {
         match op {
             Op::Constant(n) => n,
             Op::Variable(x) => self.cells[x as usize].value,
-            Op::Sample(t) => self.sample(t, work[depth - 1], samples),
+            Op::Sample(t) => self.sample(t, numbers.item(work, 1), samples),
             Op::Held(t) => self.tracks[t as usize].count as i32,
-            Op::Two(two) => combine(two, work[depth - 2], work[depth - 1]),
-            Op::One(one) => alter(one, work[depth - 1]),
+            Op::Two(two) => combine(two, numbers.item(work, 2), numbers.item(work, 1)),
+            Op::One(one) => alter(one, numbers.item(work, 1)),
         }
     }
 
-    // One operation on the first `depth` working numbers; how many there are then.
-    fn apply(&self, op: Op, depth: usize, samples: &[i32], work: &mut [i32]) -> usize
+    // One operation on the working numbers.
+    fn apply(&self, op: Op, numbers: Stack, samples: &[i32], work: &mut [i32]) -> Stack
         requires few { ⌜ now self .variables ≤ 64 ⌝ ∗ ⌜ now self .ntracks ≤ 8 ⌝ }
         requires tracks { ⌜ Track-parts (now self) (now samples) ⌝ }
         requires named { ⌜ Named (now self .variables) (now self .ntracks) op ⌝ }
-        requires held { ⌜ taken op ≤ depth ⌝ ∗ ⌜ depth ≤ 16 ⌝ }
-        requires room { ⌜ depth - taken op < 16 ⌝ ∗ ⌜ 16 ≤ length (now work) ⌝ }
-        ensures depth { λ r. ⌜ r ≡ depth - taken op + 1 ⌝ }
-        ensures work { λ _. ⌜ now (work .exit) ≡ set (now (work .entry)) (depth - taken op) (made-at (now (self .entry)) (now (samples .entry)) op depth (now (work .entry))) ⌝ }
+        requires held { ⌜ taken op ≤ numbers .held ⌝ ∗ ⌜ numbers .held - taken op < 16 ⌝ }
+        requires room { ⌜ numbers .held ≤ 16 ⌝ ∗ ⌜ numbers .base + 16 ≤ length (now work) ⌝ }
+        ensures numbers { λ r. ⌜ r ≡ record { base = numbers .base; held = numbers .held - taken op + 1 } ⌝ }
+        ensures work { λ _. ⌜ now (work .exit) ≡ set (now (work .entry)) (numbers .base + (numbers .held - taken op)) (made-at (now (self .entry)) (now (samples .entry)) op numbers (now (work .entry))) ⌝ }
     {
-        let made = self.made(op, depth, samples, work);
-        let kept = depth - operands(op);
-        work[kept] = made;
-        kept + 1
+        let made = self.made(op, numbers, samples, work);
+        numbers.without(operands(op)).push(work, made)
     }
 
     // The value of an expression.
@@ -445,11 +464,11 @@ impl Core {
         requires work { ⌜ 16 ≤ length (now work) ⌝ }
         ensures { λ r. ⌜ r ≡ value-at (now (self .entry)) (now (samples .entry)) (now (code .entry)) ⌝ }
     {
-        let mut depth = 0;
+        let mut numbers = Stack { base: 0, held: 0 };
         for op in code {
-            depth = self.apply(*op, depth, samples, work);
+            numbers = self.apply(*op, numbers, samples, work);
         }
-        work[0]
+        numbers.item(work, 1)
     }
 
     // One operation's part of a level.
@@ -536,10 +555,13 @@ impl Core {
         let level = K::join(context_level(marks, base, p.depth), self.level::<K>(bytes));
         let zero = self.value(bytes, samples, work) == 0;
         self.raise::<K>(st.assigned, level);
-        marks[base + p.depth as usize] = Mark {
-            opener: p.at,
-            level,
-        };
+        let _ = open_blocks(base, p.depth).push(
+            marks,
+            Mark {
+                opener: p.at,
+                level,
+            },
+        );
         self.arrive_at(
             i,
             table,
@@ -652,10 +674,13 @@ impl Core {
         ensures core { λ _. ⌜ now (self .exit) ≡ arrive-in (now (table .entry)) i (now (self .entry)) (p .at + 1) (p .depth + 1) ⌝ }
         ensures marks { λ _. ⌜ now (marks .exit) ≡ opened i (now (marks .entry)) p level ⌝ }
     {
-        marks[i * 16 + p.depth as usize] = Mark {
-            opener: p.at,
-            level,
-        };
+        let _ = open_blocks(i * 16, p.depth).push(
+            marks,
+            Mark {
+                opener: p.at,
+                level,
+            },
+        );
         self.arrive_at(i, table, p.at + 1, p.depth + 1);
     }
 
@@ -862,7 +887,7 @@ impl Core {
             (Pace::Running, Kind::EndWhile) => self.arrive_at(
                 i,
                 table,
-                marks[i * 16 + (p.depth as usize - 1)].opener,
+                innermost(marks, i * 16, p.depth).opener,
                 p.depth - 1,
             ),
             (Pace::Running, Kind::With) => self.enter(

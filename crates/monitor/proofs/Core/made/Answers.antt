@@ -19,7 +19,7 @@ returns-in-Variable c =
     let value : ℤ = getD (s .cells) x nil-cell .value in
     let fits : SFits w32 value = search needs in
     toZ-ofZ w32 value fits ∙ cell-value-at s x (subst P (c .in-Variable .is) (c .pre .named))
-    ∙ ap (λ (o : Op). made-at s (c .args .samples .now) o (c .args .depth) (c .args .work .now)) (sym (c .in-Variable .is))
+    ∙ ap (λ (o : Op). made-at s (c .args .samples .now) o (c .args .numbers) (c .args .work .now)) (sym (c .in-Variable .is))
 
 pub returns-in-Held : need.returns-in-Held
 returns-in-Held c =
@@ -28,4 +28,4 @@ returns-in-Held c =
     let P : Op → Type 0 = Named (s .variables) (s .ntracks) in
     let lt = subst P (c .in-Held .is) (c .pre .named) in
     held-is s (c .args .samples .now) t lt (c .pre .tracks t lt .0) (c .pre .tracks t lt .1)
-    ∙ ap (λ (o : Op). made-at s (c .args .samples .now) o (c .args .depth) (c .args .work .now)) (sym (c .in-Held .is))
+    ∙ ap (λ (o : Op). made-at s (c .args .samples .now) o (c .args .numbers) (c .args .work .now)) (sym (c .in-Held .is))
