@@ -1,5 +1,4 @@
 -- The ready set, the end, and turns one after another.
-use Rattle.codec.specs.declared.expressions.Op.{Op}
 use Prim.Native.Nat.{ℕ, zero, suc, _+_, _-_, _<_, _≤_}
 use native.Mathlib.Numerals.{add-one}
 use native.Mathlib.Omega.{arith}
@@ -82,7 +81,7 @@ all-from f g i (t ∷ ts) same =
     ∙ all-from f g (suc i) ts (λ j lt. same j (omega arith))
     ∙ ap (all-first f) e
 
-module _ (k : Levels) (table : List Step) (code : List Op) (ss : List ℤ) (c : Core) (ms : List Mark) (es : List Entry) where
+module _ (k : Levels) (table : List Step) (code : List ℕ) (ss : List ℤ) (c : Core) (ms : List Mark) (es : List Entry) where
   pub all-fit : Running-mem table code ss (mem c ms es) → All-fit c table code ms
   all-fit h =
       let v = h .2 .views in
@@ -135,7 +134,7 @@ pub chosen-within : {G : Type 0} (schedule : Meaning G) → Obedient schedule �
 chosen-within schedule law g rs n None le e = tt
 chosen-within schedule law g rs n (Some i) le e = let lt = holds-within rs i (law .picks-ready g rs i (sym e)) in omega arith
 
-module _ {G : Type 0} (k : Levels) (schedule : Meaning G) (table : List Step) (code : List Op) (ss : List ℤ) where
+module _ {G : Type 0} (k : Levels) (schedule : Meaning G) (table : List Step) (code : List ℕ) (ss : List ℤ) where
   pub turn-runs : (c : Core) (ms : List Mark) (es : List Entry) (y : Mem) (g h : G) (ready rs : List Bool) (o : Option ℕ) → length ready ≡ 8 → Ready-list k table code ss c ms ready (c .count) → rs ≡ take (c .count) ready
       → answered o ≡ schedule g rs .0 → h ≡ schedule g rs .1
       → ((sc : Script) (s : State) → Runs sc table code ss (mem c ms es) s → Runs sc table code ss y (take-turn (rules k sc) s (answered o)))

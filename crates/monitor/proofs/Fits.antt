@@ -1,5 +1,4 @@
 -- Memory that stands for a state is such that a turn is safe.
-use Rattle.codec.specs.declared.expressions.Op.{Op}
 use Prim.Native.Nat.{ℕ, zero, suc, _+_, _-_, _*_, _<_, _≤_}
 use native.Mathlib.Omega.{arith}
 use mathlib.Core.Path.{_≡_, refl, sym, ap, subst, _∙_}
@@ -75,7 +74,7 @@ opener-within fs r ms b (suc n) (in-lock k c ∷ os) o d lt = ⊎-elim
     (λ (e : d ≡ n). subst (λ (z : ℕ). getD ms (b + z) nil-mark .opener < length fs) (sym e) (stands-within _ fs (lock k (o .0 .0) (o .0 .1) c) os r (o .0 .2)))
     (λ ne. opener-within fs r ms b n os (o .1) d (omega arith)) (cases-eq d n)
 
-module _ (most : ℕ) (sc : Script) (table : List Step) (code : List Op) (c : Core) (ms : List Mark) (es : List Entry) (ts : List Thread) (v : Views most sc table code c ms es ts) where
+module _ (most : ℕ) (sc : Script) (table : List Step) (code : List ℕ) (c : Core) (ms : List Mark) (es : List Entry) (ts : List Thread) (v : Views most sc table code c ms es ts) where
   pub views-sized : Sized c table ms
   views-sized =
       let d = v .declares in

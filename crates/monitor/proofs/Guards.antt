@@ -1,5 +1,4 @@
 -- The guard that is worked out from marks is the model's.
-use Rattle.codec.specs.declared.expressions.Op.{Op}
 use Prim.Native.Nat.{ℕ, zero, suc, _+_, _-_, _*_, _/_, _%_, _^_, _<_, _≤_}
 use native.Mathlib.Nat.{zero-div}
 use native.Mathlib.Omega.{arith}
@@ -29,10 +28,10 @@ pub no-bit : (x : ℕ) → has-bit 0 x ≡ false
 no-bit x = ap (λ (n : ℕ). eqb (n % 2) 1) (zero-div (2 ^ x))
 
 -- What a step says at a place whose frames are known.
-pub reads : (h : Head) (code : List Op) (table : List Step) (fs : List Frame) → Tabled h code table fs → (p : ℕ) (gs : List Frame) → drop p fs ≡ gs → Reads h code p (step-at-place table p) gs
+pub reads : (h : Head) (code : List ℕ) (table : List Step) (fs : List Frame) → Tabled h code table fs → (p : ℕ) (gs : List Frame) → drop p fs ≡ gs → Reads h code p (step-at-place table p) gs
 reads h code table fs tabled p gs e = subst (Reads h code p (step-at-place table p)) e (tabled .here p)
 
-module _ (k : Levels) (h : Head) (code : List Op) (table : List Step) (fs : List Frame) (tabled : Tabled h code table fs) (x : ℕ) (small : x < 64) where
+module _ (k : Levels) (h : Head) (code : List ℕ) (table : List Step) (fs : List Frame) (tabled : Tabled h code table fs) (x : ℕ) (small : x < 64) where
   unassigned : (mask acc l : ℕ) → mask ≡ 0 → cond (has-bit mask x) (k .join acc l) acc ≡ acc
   unassigned mask acc l e = ap (λ (n : ℕ). cond (has-bit n x) (k .join acc l) acc) e ∙ ap (λ (b : Bool). cond b (k .join acc l) acc) (no-bit x)
 

@@ -3,7 +3,7 @@ use Prim.Native.Nat.{ℕ, _+_, _<_, _≤_}
 use native.Mathlib.Omega.{arith}
 use mathlib.Core.Path.{_≡_, refl, sym, ap, subst, _∙_}
 use mathlib.Core.Bool.{Bool, true, false, _&&_}
-use mathlib.Core.List.{List, [], _∷_, map}
+use mathlib.Core.List.{List, [], _∷_}
 use lib.Dec.{T, ltb, ltb→lt}
 use lib.ListN.{length, getD, take, drop, List·getD-map}
 use lib.Seq.{getD-take}
@@ -14,7 +14,9 @@ use Rattle.codec.specs.Sound.{declared}
 use Rattle.codec.specs.declared.expressions.Op.{Op}
 use Rattle.codec.specs.declared.expressions.Op.the-variants.{Constant, Variable, Sample, Held, Two, One}
 use Rattle.monitor.specs.declared.Core.{Core}
-use Rattle.codec.specs.Operations.{op-of}
+use Rattle.codec.specs.Expressions as C
+use Rattle.codec.specs.Expressions.{Expr, Decoded, decode}
+use Rattle.codec.specs.Operations.{First, op-of, stopped}
 use Rattle.monitor.specs.Operations.{joined-one, Named}
 use Rattle.monitor.specs.Flat.{nil-cell, nil-port, cell-of, level-of-port, cell-level, track-level}
 
@@ -26,21 +28,31 @@ pub and-right : (a b : Bool) → T (a && b) → T b
 and-right true b t = t
 and-right false b t = absurd t
 
-pub joined-more : (k : Levels) (vl tl : ℕ → ℕ) (o : Op) (os : List Op) (acc : ℕ) → joined k vl tl (map op-of (o ∷ os)) acc ≡ joined k vl tl (map op-of os) (joined-one k vl tl (op-of o) acc)
-joined-more k vl tl (Constant z) os acc = refl
-joined-more k vl tl (Variable x) os acc = refl
-joined-more k vl tl (Sample t) os acc = refl
-joined-more k vl tl (Held t) os acc = refl
-joined-more k vl tl (One u) os acc = refl
-joined-more k vl tl (Two b) os acc = refl
+pub joined-more : (k : Levels) (vl tl : ℕ → ℕ) (o : Op) (e : Expr) (acc : ℕ) → joined k vl tl (op-of o ∷ e) acc ≡ joined k vl tl e (joined-one k vl tl (op-of o) acc)
+joined-more k vl tl (Constant z) e acc = refl
+joined-more k vl tl (Variable x) e acc = refl
+joined-more k vl tl (Sample t) e acc = refl
+joined-more k vl tl (Held t) e acc = refl
+joined-more k vl tl (One u) e acc = refl
+joined-more k vl tl (Two b) e acc = refl
 
-pub named-first : (h : Head) (o : Op) (os : List Op) → T (declared h (map op-of (o ∷ os))) → Named (h .variables) (h .tracks) o × T (declared h (map op-of os))
-named-first h (Constant z) os t = (tt, t)
-named-first h (Variable x) os t = (ltb→lt x (h .variables) (and-left _ (declared h (map op-of os)) t), and-right (ltb x (h .variables)) _ t)
-named-first h (Sample x) os t = (ltb→lt x (h .tracks) (and-left _ (declared h (map op-of os)) t), and-right (ltb x (h .tracks)) _ t)
-named-first h (Held x) os t = (ltb→lt x (h .tracks) (and-left _ (declared h (map op-of os)) t), and-right (ltb x (h .tracks)) _ t)
-named-first h (One u) os t = (tt, t)
-named-first h (Two b) os t = (tt, t)
+pub named-first : (h : Head) (o : Op) (e : Expr) → T (declared h (op-of o ∷ e)) → Named (h .variables) (h .tracks) o × T (declared h e)
+named-first h (Constant z) e t = (tt, t)
+named-first h (Variable x) e t = (ltb→lt x (h .variables) (and-left _ (declared h e) t), and-right (ltb x (h .variables)) _ t)
+named-first h (Sample x) e t = (ltb→lt x (h .tracks) (and-left _ (declared h e) t), and-right (ltb x (h .tracks)) _ t)
+named-first h (Held x) e t = (ltb→lt x (h .tracks) (and-left _ (declared h e) t), and-right (ltb x (h .tracks)) _ t)
+named-first h (One u) e t = (tt, t)
+named-first h (Two b) e t = (tt, t)
+
+-- The operations of a code behind its first.
+pub ops-more : (code : List ℕ) (o : C.Op) (rest : List ℕ) → First code o rest → decode 0 code .ops ≡ o ∷ decode 0 rest .ops
+ops-more code o rest first = ap (λ (d : Decoded). d .ops) (first .is)
+
+-- A code without a first operation has none.
+pub ops-none : (code : List ℕ) → (0 < length code → decode 0 code ≡ stopped) → decode 0 code .ops ≡ []
+unfolding decode
+ops-none [] h = refl
+ops-none (b ∷ bs) h = ap (λ (d : Decoded). d .ops) (h (omega arith))
 
 pub cell-level-at : (c : Core) (x : ℕ) → x < c .variables → getD (c .cells) x nil-cell .level ≡ cell-level c x
 cell-level-at c x lt = sym (ap (λ z. z .level) (List·getD-map cell-of (take (c .variables) (c .cells)) x nil-cell) ∙ ap (λ z. z .level) (getD-take (c .variables) (c .cells) x nil-cell lt))

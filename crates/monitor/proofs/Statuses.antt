@@ -1,5 +1,4 @@
 -- The status that is worked out from places and marks is the model's.
-use Rattle.codec.specs.declared.expressions.Op.{Op}
 use Prim.Native.Nat.{ℕ, zero, suc, _+_, _-_, _*_, _<_, _≤_}
 use native.Mathlib.Omega.{arith}
 use mathlib.Core.Path.{_≡_, refl, sym, ap, subst, _∙_}
@@ -71,7 +70,7 @@ against-push zero (u ∷ ts) t own e =
 against-push (suc i) (u ∷ ts) t own e =
     ap (bitOr (part false u)) (against-push i ts t own (e ∙ eqb-suc (length ts) i)) ∙ sym (or-assoc (part false u) (against i ts) (part own t))
 
-module _ (h : Head) (code : List Op) (table : List Step) (fs : List Frame) (tabled : Tabled h code table fs) (ms : List Mark) where
+module _ (h : Head) (code : List ℕ) (table : List Step) (fs : List Frame) (tabled : Tabled h code table fs) (ms : List Mark) where
   or-none : (a b : ℕ) → a ≡ 0 → bitOr a b ≡ b
   or-none a b e = ap (λ (x : ℕ). bitOr x b) e ∙ or-zero-l b
 
@@ -115,7 +114,7 @@ module _ (h : Head) (code : List Op) (table : List Step) (fs : List Frame) (tabl
   pub against-is : (i : ℕ) (ps : List Place) (ts : List Thread) → ((j : ℕ) → j < length ts → ThreadView h fs table ms j (getD ps j nil-place) (getD ts j ended)) → against-first table ms i ps (length ts) ≡ against i ts
   against-is i ps ts all = against-to i ps ts all (length ts) (omega arith) ∙ ap (against i) (take-all (length ts) ts (omega arith))
 
-module _ (most : ℕ) (k : Levels) (sc : Script) (table : List Step) (code : List Op) (ss : List ℤ) (c : Core) (ms : List Mark) (es : List Entry) (ts : List Thread) (v : Views most sc table code c ms es ts) (i : ℕ) (within : i < c .count) where
+module _ (most : ℕ) (k : Levels) (sc : Script) (table : List Step) (code : List ℕ) (ss : List ℤ) (c : Core) (ms : List Mark) (es : List Entry) (ts : List Thread) (v : Views most sc table code c ms es ts) (i : ℕ) (within : i < c .count) where
   abbrev at-now : Place
   at-now = getD (c .threads) i nil-place
 

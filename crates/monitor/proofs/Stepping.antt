@@ -1,6 +1,5 @@
 -- One turn of a thread: what memory stands for moves as the model does.
-use Rattle.codec.specs.declared.expressions.Op.{Op}
-use Rattle.codec.specs.Operations.{op-of}
+use Rattle.codec.specs.Expressions.{decode}
 use Prim.Native.Nat.{ℕ, zero, suc, _+_, _-_, _*_, _<_, _≤_}
 use native.Mathlib.Numerals.{add-one}
 use native.Mathlib.Omega.{arith}
@@ -80,7 +79,7 @@ pub opener-loop : (fs r : List Frame) (ms : List Mark) (b d : ℕ) (e : Expr) (x
 opener-loop fs r ms b zero e x n os h = absurd h
 opener-loop fs r ms b (suc d) e x n os h = let q : suc d - 1 ≡ d = omega arith in ap (λ (z : ℕ). drop (getD ms (b + z) nil-mark .opener) fs) q ∙ h .0
 
-module _ (most : ℕ) (sc : Script) (table : List Step) (code : List Op) (c : Core) (ms : List Mark) (es : List Entry) (ts : List Thread) (v : Views most sc table code c ms es ts) (i : ℕ) where
+module _ (most : ℕ) (sc : Script) (table : List Step) (code : List ℕ) (c : Core) (ms : List Mark) (es : List Entry) (ts : List Thread) (v : Views most sc table code c ms es ts) (i : ℕ) where
   -- Past the end of a way.
   pub beyond-here : (w : Bool) (l : ℕ) (a b n : Code) (os : List Open) (rest : List Frame) → drop ((getD (c .threads) i nil-place) .at) (script-frames sc) ≡ flatten-inside (in-branch l w a b n ∷ os) rest
       → drop (beyond ((step-at-place table (getD (c .threads) i nil-place .at)) .kind) ((step-at-place table (getD (c .threads) i nil-place .at)) .other) ((getD (c .threads) i nil-place) .at)) (script-frames sc) ≡ flatten n (flatten-inside os rest)
@@ -94,16 +93,16 @@ module _ (most : ℕ) (sc : Script) (table : List Step) (code : List Op) (c : Co
 
 -- Expressions
 
-module _ (most : ℕ) (k : Levels) (sc : Script) (table : List Step) (code : List Op) (ss : List ℤ) (c : Core) (ms : List Mark) (es : List Entry) (ts : List Thread) (v : Views most sc table code c ms es ts) where
-  pub value-is : (bytes : List Op) (e : Expr) → map op-of bytes ≡ e → value-at c ss bytes ≡ value-of k sc (state-of c ss es ts) e
+module _ (most : ℕ) (k : Levels) (sc : Script) (table : List Step) (code : List ℕ) (ss : List ℤ) (c : Core) (ms : List Mark) (es : List Entry) (ts : List Thread) (v : Views most sc table code c ms es ts) where
+  pub value-is : (bytes : List ℕ) (e : Expr) → decode 0 bytes .ops ≡ e → value-at c ss bytes ≡ value-of k sc (state-of c ss es ts) e
   value-is bytes e q = ap (λ (x : Expr). top (eval (cells-of c) (tracks-of c ss) x [])) q
 
-  pub level-is : (bytes : List Op) (e : Expr) → map op-of bytes ≡ e → level-at k c bytes ≡ level-of k sc (state-of c ss es ts) e
+  pub level-is : (bytes : List ℕ) (e : Expr) → decode 0 bytes .ops ≡ e → level-at k c bytes ≡ level-of k sc (state-of c ss es ts) e
   level-is bytes e q = λ j. joined k (λ x. getD (cells-of c) x blank .level) (λ t. getD (sym (v .declares .track-levels) j) t 0) (q j) 0
 
 -- One turn
 
-module _ (most : ℕ) (k : Levels) (sc : Script) (table : List Step) (code : List Op) (ss : List ℤ) (c : Core) (ms : List Mark) (es : List Entry) (ts : List Thread) (v : Views most sc table code c ms es ts) (fed : Track-parts c ss) (i : ℕ) (within : i < c .count) where
+module _ (most : ℕ) (k : Levels) (sc : Script) (table : List Step) (code : List ℕ) (ss : List ℤ) (c : Core) (ms : List Mark) (es : List Entry) (ts : List Thread) (v : Views most sc table code c ms es ts) (fed : Track-parts c ss) (i : ℕ) (within : i < c .count) where
   abbrev at-now : Place
   at-now = getD (c .threads) i nil-place
 
@@ -250,10 +249,10 @@ module _ (most : ℕ) (k : Levels) (sc : Script) (table : List Step) (code : Lis
       (moves _ (at-code n os) (arrive-view ms _ (at-now .depth - 1) n os (tv .rest) (next-place (at-now .at) _ (st .here))
       (opened-pop (script-frames sc) (tv .rest) ms (first-mark i) (at-now .depth) _ os (st .opened)) (leveled-pop ms (first-mark i) (at-now .depth) _ os (tv .leveled)) (va .2) (va .3) (omega arith)))
 
-  value-here : (bytes : List Op) (e : Expr) → map op-of bytes ≡ e → value-at c ss bytes ≡ value-of k sc state-now e
+  value-here : (bytes : List ℕ) (e : Expr) → decode 0 bytes .ops ≡ e → value-at c ss bytes ≡ value-of k sc state-now e
   value-here = value-is most k sc table code ss c ms es ts v
 
-  level-here : (bytes : List Op) (e : Expr) → map op-of bytes ≡ e → level-at k c bytes ≡ level-of k sc state-now e
+  level-here : (bytes : List ℕ) (e : Expr) → decode 0 bytes .ops ≡ e → level-at k c bytes ≡ level-of k sc state-now e
   level-here = level-is most k sc table code ss c ms es ts v
 
   case-assign : (x : ℕ) (e : Expr) (cd : Code) (os : List Open) → View ms at-now (at-code (assign x e cd) os) → Next (at-now .pace) (step-now .kind) (step-at k sc state-now i (assign x e cd) running os)
@@ -446,7 +445,7 @@ module _ (most : ℕ) (k : Levels) (sc : Script) (table : List Step) (code : Lis
 abbrev pub with-turns : Core → ℕ → Core
 with-turns c n = record { variables = c .variables; cells = c .cells; count = c .count; threads = c .threads; ntracks = c .ntracks; tracks = c .tracks; nchannels = c .nchannels; channels = c .channels; turns = n }
 
-pub tick : (given : ℕ) (sc : Script) (table : List Step) (code : List Op) (ss : List ℤ) (c : Core) (ms : List Mark) (es : List Entry) (s : State) → given < 1000000 → Holds-state (suc given) given sc table code ss (mem c ms es) s
+pub tick : (given : ℕ) (sc : Script) (table : List Step) (code : List ℕ) (ss : List ℤ) (c : Core) (ms : List Mark) (es : List Entry) (s : State) → given < 1000000 → Holds-state (suc given) given sc table code ss (mem c ms es) s
     → Holds-state (given + 1) (given + 1) sc table code ss (mem (with-turns c (given + 1)) ms es) (one-more s)
 tick given sc table code ss c ms es s lt h =
     let v = h .views in

@@ -1,5 +1,4 @@
 -- One thread moved: memory still stands for the state.
-use Rattle.codec.specs.declared.expressions.Op.{Op}
 use Prim.Native.Nat.{ℕ, zero, suc, _+_, _-_, _*_, _<_, _≤_}
 use native.Mathlib.Omega.{arith}
 use mathlib.Core.Path.{_≡_, refl, sym, ap, subst, _∙_}
@@ -62,7 +61,7 @@ pub record Ports (most : ℕ) (c : Core) (qs : List Port) (es : List Entry) : Ty
   pub parts : (h : ℕ) → h < c .nchannels → Part (getD qs h nil-port) most es
   pub apart : (h j : ℕ) → h < c .nchannels → j < c .nchannels → h ≢ j → Apart (getD qs h nil-port) (getD qs j nil-port)
 
-module _ (most : ℕ) (sc : Script) (table : List Step) (code : List Op) (c : Core) (ms : List Mark) (es : List Entry) (ts : List Thread) (v : Views most sc table code c ms es ts) where
+module _ (most : ℕ) (sc : Script) (table : List Step) (code : List ℕ) (c : Core) (ms : List Mark) (es : List Entry) (ts : List Thread) (v : Views most sc table code c ms es ts) where
   more : (q : Port) → Part q most es → Part q (suc most) es
   more q h = let le = h .missed in record { part = h .part; held = h .held; missed = omega arith }
 
@@ -72,7 +71,7 @@ module _ (most : ℕ) (sc : Script) (table : List Step) (code : List Op) (c : Co
   pub views-later : Views (suc most) sc table code c ms es ts
   views-later = record { tabled = v .tabled; declares = v .declares; cells = v .cells; places = v .places; ports = v .ports; room = v .room; count = v .count; turns = v .turns; parts = ports-kept .parts; apart = v .apart; threads = v .threads }
 
-module _ (most : ℕ) (sc : Script) (table : List Step) (code : List Op) (c : Core) (ms : List Mark) (es : List Entry) (ts : List Thread) (v : Views most sc table code c ms es ts) (i : ℕ) (within : i < c .count) where
+module _ (most : ℕ) (sc : Script) (table : List Step) (code : List ℕ) (c : Core) (ms : List Mark) (es : List Entry) (ts : List Thread) (v : Views most sc table code c ms es ts) (i : ℕ) (within : i < c .count) where
   pub views-next : (cs : List Cell) (qs : List Port) (ns : List Mark) (fs : List Entry) (p : Place) (t : Thread)
       → length cs ≡ 64 → Ports (suc most) c qs fs → length ns ≡ length ms → Others i ms ns
       → ThreadView (head-of-core c) (script-frames sc) table ns i p t

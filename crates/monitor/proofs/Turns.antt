@@ -1,5 +1,4 @@
 -- A whole turn: the thread's step, and the count.
-use Rattle.codec.specs.declared.expressions.Op.{Op}
 use Prim.Native.Nat.{ℕ, suc, _+_, _<_}
 use mathlib.Core.Path.{_≡_, refl, sym, ap, subst, _∙_}
 use mathlib.Core.Option.{Option, none, some}
@@ -18,7 +17,7 @@ use Rattle.monitor.specs.Views.{Holds-state, Runs, Running-mem}
 use Rattle.monitor.proofs.Stepping.{turn-views, with-turns, tick}
 use Rattle.monitor.proofs.Fits.{views-fit}
 
-module _ (table : List Step) (code : List Op) (ss : List ℤ) (c : Core) (ms : List Mark) (es : List Entry) (i : ℕ) (within : i < c .count) where
+module _ (table : List Step) (code : List ℕ) (ss : List ℤ) (c : Core) (ms : List Mark) (es : List Entry) (i : ℕ) (within : i < c .count) where
   pub runs-fit : Running-mem table code ss (mem c ms es) → Fit c table code ms es i
   runs-fit h = views-fit (c .turns) (h .0) table code c ms es (h .2 .ts) (h .2 .views) i within (omega arith)
 

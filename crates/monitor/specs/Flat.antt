@@ -1,5 +1,6 @@
 -- The memory of a run: the state that it stands for, and what a turn does to it.
 use Rattle.codec.specs.declared.expressions.Op.{Op}
+use Rattle.codec.specs.Expressions.{decode}
 use Rattle.codec.specs.Operations.{op-of}
 use Rattle.monitor.specs.Operations.{made}
 use Prim.Native.Nat.{ℕ, zero, suc, _+_, _-_, _*_, _<_, _≤_}
@@ -78,8 +79,8 @@ Track-parts c ss = (t : ℕ) → t < c .ntracks → (getD (c .tracks) t nil-port
 
 -- Expressions
 
-abbrev pub value-at : Core → List ℤ → List Op → ℤ
-value-at c ss bytes = top (eval (cells-of c) (tracks-of c ss) (map op-of bytes) [])
+abbrev pub value-at : Core → List ℤ → List ℕ → ℤ
+value-at c ss bytes = top (eval (cells-of c) (tracks-of c ss) (decode 0 bytes .ops) [])
 
 -- What an operation makes of the working numbers.
 abbrev pub made-at : Core → List ℤ → Op → Stack → List ℤ → ℤ
@@ -91,8 +92,8 @@ cell-level c x = getD (cells-of c) x blank .level
 abbrev pub track-level : Core → ℕ → ℕ
 track-level c t = getD (track-levels-of c) t 0
 
-abbrev pub level-at : Levels → Core → List Op → ℕ
-level-at k c bytes = joined k (cell-level c) (track-level c) (map op-of bytes) 0
+abbrev pub level-at : Levels → Core → List ℕ → ℕ
+level-at k c bytes = joined k (cell-level c) (track-level c) (decode 0 bytes .ops) 0
 
 -- The head that a core goes by: how many variables, tracks and channels an expression may name.
 abbrev pub head-of-core : Core → Head
@@ -207,24 +208,24 @@ added-entries q e es = cond (ltb (q .count) (q .size)) (set es (q .start + q .co
 abbrev pub opened : ℕ → List Mark → Place → ℕ → List Mark
 opened i ms p l = set ms (first-mark i + p .depth) (record { opener = p .at; level = l })
 
-abbrev pub branch-level : Levels → List Op → ℕ → Core → List Mark → Place → Step → ℕ
+abbrev pub branch-level : Levels → List ℕ → ℕ → Core → List Mark → Place → Step → ℕ
 branch-level k code i c ms p st = k .join (level-inside ms (first-mark i) (p .depth)) (level-at k c (bytes-of code st))
 
-module _ (k : Levels) (code : List Op) (ss : List ℤ) (i : ℕ) where
+module _ (k : Levels) (code : List ℕ) (ss : List ℤ) (i : ℕ) where
   abbrev pub new-entry : Core → Step → Entry
   new-entry c st =
       let open-to = k .flows (level-at k c (bytes-of code st)) (getD (c .channels) (st .number) nil-port .level) in
       record { turn = c .turns + 1; thread = i; mark = not open-to; value = cond open-to (value-at c ss (bytes-of code st)) (pos 0) }
 
-module _ (table : List Step) (code : List Op) (ss : List ℤ) (i : ℕ) where
+module _ (table : List Step) (code : List ℕ) (ss : List ℤ) (i : ℕ) where
   abbrev pub looped : Core → Place → Step → Core
   looped c p st = cond (is-zero (value-at c ss (bytes-of code st))) (arrive-in table i c (st .other) (p .depth)) (arrive-in table i c (p .at + 1) (p .depth + 1))
 
-module _ (code : List Op) (ss : List ℤ) (i : ℕ) where
+module _ (code : List ℕ) (ss : List ℤ) (i : ℕ) where
   abbrev pub looped-marks : Core → List Mark → Place → Step → List Mark
   looped-marks c ms p st = cond (is-zero (value-at c ss (bytes-of code st))) ms (opened i ms p (level-inside ms (first-mark i) (p .depth)))
 
-module _ (k : Levels) (table : List Step) (code : List Op) (ss : List ℤ) (i : ℕ) where
+module _ (k : Levels) (table : List Step) (code : List ℕ) (ss : List ℤ) (i : ℕ) where
   abbrev pub assigned : Core → List Mark → Place → Step → Core
   assigned c ms p st =
       let bytes = bytes-of code st in
@@ -269,12 +270,12 @@ module _ (k : Levels) (table : List Step) (code : List Op) (ss : List ℤ) (i : 
 -- What the memory must be for a turn to be safe
 
 -- A step's expression lies in the code and is sound.
-pub record Sound-step (c : Core) (code : List Op) (st : Step) : Type 0 where
+pub record Sound-step (c : Core) (code : List ℕ) (st : Step) : Type 0 where
   pub good : Good (head-of-core c) (bytes-of code st)
   pub ordered : st .start ≤ st .stop
   pub within : st .stop ≤ length code
 
-abbrev pub FitAt : Kind → Core → List Step → List Op → Place → Step → Type 0
+abbrev pub FitAt : Kind → Core → List Step → List ℕ → Place → Step → Type 0
 FitAt Other c table code p st = Unit {0}
 FitAt End c table code p st = Unit {0}
 FitAt Skip c table code p st = p .at + 1 < length table
@@ -289,7 +290,7 @@ FitAt With c table code p st = (p .at + 1 < length table) × (p .depth < 16) × 
 FitAt EndWith c table code p st = (p .at + 1 < length table) × (0 < p .depth)
 
 -- A thread that is idle stands at the end of a way.
-abbrev pub FitNow : Pace → Kind → Core → List Step → List Op → Place → Step → Type 0
+abbrev pub FitNow : Pace → Kind → Core → List Step → List ℕ → Place → Step → Type 0
 FitNow Finished kd c table code p st = Unit {0}
 FitNow (Idling n) kd c table code p st = (0 < p .depth) × (beyond kd (st .other) (p .at) < length table)
 FitNow Running kd c table code p st = FitAt kd c table code p st
@@ -317,7 +318,7 @@ pub record Sized (c : Core) (table : List Step) (ms : List Mark) : Type 0 where
 abbrev pub Parts : Core → List Entry → Type 0
 Parts c es = (h : ℕ) → h < c .nchannels → Part (getD (c .channels) h nil-port) (c .turns) es
 
-pub record Fit (c : Core) (table : List Step) (code : List Op) (ms : List Mark) (es : List Entry) (i : ℕ) : Type 0 where
+pub record Fit (c : Core) (table : List Step) (code : List ℕ) (ms : List Mark) (es : List Entry) (i : ℕ) : Type 0 where
   pub sized : Sized c table ms
   pub parts : Parts c es
   pub thread : i < c .count

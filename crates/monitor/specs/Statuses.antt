@@ -1,5 +1,4 @@
 -- What a thread's status is by its place and marks.
-use Rattle.codec.specs.declared.expressions.Op.{Op}
 use Prim.Native.Nat.{ℕ, zero, suc, _+_, _-_, _*_}
 use mathlib.Core.Bool.{Bool, true, false, _&&_, _||_, not, cond}
 use mathlib.Core.List.{List, [], _∷_}
@@ -55,14 +54,14 @@ module _ (table : List Step) (ms : List Mark) where
   against-first i ps zero = 0
   against-first i ps (suc n) = bitOr (against-first i ps n) (held-one i n (getD ps n nil-place))
 
-module _ (k : Levels) (table : List Step) (code : List Op) (i : ℕ) where
+module _ (k : Levels) (table : List Step) (code : List ℕ) (i : ℕ) where
   abbrev pub if-status : Core → List Mark → Place → Step → ModelStatus
   if-status c ms p st =
       let here = level-inside ms (first-mark i) (p .depth) in
       let l = k .join here (level-at k c (bytes-of code st)) in
       choose-status (not (st .fixed) && not (is-open l)) ((is-open here && not (is-open l)) && clash (st .needed) (against-first table ms i (c .threads) (c .count)))
 
-module _ (k : Levels) (table : List Step) (code : List Op) (ss : List ℤ) (i : ℕ) where
+module _ (k : Levels) (table : List Step) (code : List ℕ) (ss : List ℤ) (i : ℕ) where
   abbrev pub with-status : Core → List Mark → Place → Step → ModelStatus
   with-status c ms p st =
       choose-status (not (is-open (level-at k c (bytes-of code st))))

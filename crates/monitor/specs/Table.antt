@@ -1,6 +1,5 @@
 -- A script as a table of steps, one for each frame.
-use Rattle.codec.specs.declared.expressions.Op.{Op}
-use Rattle.codec.specs.Operations.{op-of}
+use Rattle.codec.specs.Expressions.{decode}
 use Prim.Native.Nat.{ℕ, zero, suc, _+_, _-_, _*_, _/_, _%_, _^_, _<_, _≤_}
 use mathlib.Core.Path.{_≡_}
 use mathlib.Core.Bool.{Bool, true, false, _&&_, _||_}
@@ -36,21 +35,21 @@ abbrev pub has-bit : ℕ → ℕ → Bool
 has-bit m x = eqb (m / 2 ^ x % 2) 1
 
 -- The operations of a step's expression.
-abbrev pub bytes-of : List Op → Step → List Op
+abbrev pub bytes-of : List ℕ → Step → List ℕ
 bytes-of code st = take (st .stop - st .start) (drop (st .start) code)
 
 -- Operations that are a sound expression.
-pub record Good (h : Head) (bytes : List Op) : Type 0 where
-  pub sound : Sound h (map op-of bytes)
+pub record Good (h : Head) (bytes : List ℕ) : Type 0 where
+  pub sound : Sound h (decode 0 bytes .ops)
 
-pub record Holds (h : Head) (code : List Op) (st : Step) (e : Expr) : Type 0 where
-  pub ops : map op-of (bytes-of code st) ≡ e
+pub record Holds (h : Head) (code : List ℕ) (st : Step) (e : Expr) : Type 0 where
+  pub ops : decode 0 (bytes-of code st) .ops ≡ e
   pub good : Good h (bytes-of code st)
   pub ordered : st .start ≤ st .stop
   pub within : st .stop ≤ length code
 
 -- What a step at place p says of its own frame, the first of these.
-abbrev pub Reads : Head → List Op → ℕ → Step → List Frame → Type 0
+abbrev pub Reads : Head → List ℕ → ℕ → Step → List Frame → Type 0
 Reads h code p st [] = Unit {0}
 Reads h code p st (header d ∷ fs) = Unit {0}
 Reads h code p st (track i l z ∷ fs) = Unit {0}
@@ -77,7 +76,7 @@ pub record Ways (st : Step) (a b : Code) : Type 0 where
   pub needed : st .needed ≡ bitOr (needs a) (needs b)
   pub assigned : (x : ℕ) → x < 64 → has-bit (st .assigned) x ≡ (assigns x a || assigns x b)
 
-pub record Tabled (h : Head) (code : List Op) (table : List Step) (fs : List Frame) : Type 0 where
+pub record Tabled (h : Head) (code : List ℕ) (table : List Step) (fs : List Frame) : Type 0 where
   pub here : (p : ℕ) → Reads h code p (step-at-place table p) (drop p fs)
   pub ways : (p : ℕ) (e : Expr) (a b c : Code) (r : List Frame) → drop p fs ≡ flatten (branch e a b c) r → Ways (step-at-place table p) a b
   pub long : length table ≡ length fs

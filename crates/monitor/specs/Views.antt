@@ -1,5 +1,4 @@
 -- When memory stands for a state of the model.
-use Rattle.codec.specs.declared.expressions.Op.{Op}
 use Prim.Native.Nat.{ℕ, zero, suc, _+_, _-_, _*_, _<_, _≤_}
 use mathlib.Core.Path.{_≡_}
 use mathlib.Core.Logic.{_⊎_, _≢_}
@@ -82,7 +81,7 @@ abbrev pub Apart : Port → Port → Type 0
 Apart p q = (p .start + p .size ≤ q .start) ⊎ (q .start + q .size ≤ p .start)
 
 -- No channel has missed more than `most`.
-pub record Views (most : ℕ) (sc : Script) (table : List Step) (code : List Op) (c : Core) (ms : List Mark) (es : List Entry) (ts : List Thread) : Type 0 where
+pub record Views (most : ℕ) (sc : Script) (table : List Step) (code : List ℕ) (c : Core) (ms : List Mark) (es : List Entry) (ts : List Thread) : Type 0 where
   pub tabled : Tabled (head-of-core c) code table (script-frames sc)
   pub declares : Declares sc c
   pub cells : length (c .cells) ≡ 64
@@ -96,7 +95,7 @@ pub record Views (most : ℕ) (sc : Script) (table : List Step) (code : List Op)
   pub threads : (j : ℕ) → j < c .count → ThreadView (head-of-core c) (script-frames sc) table ms j (getD (c .threads) j nil-place) (getD ts j ended)
 
 -- Memory that stands for the state s, with `given` turns so far.
-pub record Holds-state (most given : ℕ) (sc : Script) (table : List Step) (code : List Op) (ss : List ℤ) (x : Mem) (s : State) : Type 0 where
+pub record Holds-state (most given : ℕ) (sc : Script) (table : List Step) (code : List ℕ) (ss : List ℤ) (x : Mem) (s : State) : Type 0 where
   pub ts : List Thread
   pub is : s ≡ state-of (x .core) ss (x .entries) ts
   pub counted : x .core .turns ≡ given
@@ -104,9 +103,9 @@ pub record Holds-state (most given : ℕ) (sc : Script) (table : List Step) (cod
   pub views : Views most sc table code (x .core) (x .marks) (x .entries) ts
 
 -- The same between turns: no channel has missed more than there were turns.
-abbrev pub Runs : Script → List Step → List Op → List ℤ → Mem → State → Type 0
+abbrev pub Runs : Script → List Step → List ℕ → List ℤ → Mem → State → Type 0
 Runs sc table code ss x s = Holds-state (x .core .turns) (x .core .turns) sc table code ss x s
 
 -- Memory that stands for some state of some script.
-abbrev pub Running-mem : List Step → List Op → List ℤ → Mem → Type 0
+abbrev pub Running-mem : List Step → List ℕ → List ℤ → Mem → Type 0
 Running-mem table code ss x = (sc : Script) × (s : State) × Runs sc table code ss x s

@@ -22,6 +22,7 @@ pub mod stack;
 use codec::expressions::Binary;
 use codec::expressions::Op;
 use codec::expressions::Unary;
+use codec::expressions::first_op;
 use lattice::Lattice;
 ghost use Rattle.scheduler.specs.Turns.{answered};
 use scheduler::Scheduler;
@@ -310,7 +311,7 @@ fn choose_status(barred: bool, waits: bool) -> Status
 }
 
 // The bytes of a step's expression.
-fn expression(code: &[Op], st: Step) -> &[Op]
+fn expression(code: &[u8], st: Step) -> &[u8]
     requires { ⌜ st .start ≤ st .stop ⌝ ∗ ⌜ st .stop ≤ length (now code) ⌝ }
     ensures { λ r. ⌜ now r ≡ bytes-of (now (code .entry)) st ⌝ }
 {
@@ -457,7 +458,7 @@ impl Core {
     }
 
     // The value of an expression.
-    fn value(&self, code: &[Op], samples: &[i32], work: &mut [i32]) -> i32
+    fn value(&self, code: &[u8], samples: &[i32], work: &mut [i32]) -> i32
         requires few { ⌜ now self .variables ≤ 64 ⌝ ∗ ⌜ now self .ntracks ≤ 8 ⌝ }
         requires tracks { ⌜ Track-parts (now self) (now samples) ⌝ }
         requires good { ⌜ Good (head-of-core (now self)) (now code) ⌝ }
@@ -465,8 +466,10 @@ impl Core {
         ensures { λ r. ⌜ r ≡ value-at (now (self .entry)) (now (samples .entry)) (now (code .entry)) ⌝ }
     {
         let mut numbers = Stack { base: 0, held: 0 };
-        for op in code {
-            numbers = self.apply(*op, numbers, samples, work);
+        let mut rest = code;
+        while let Some((op, after)) = first_op(rest) {
+            numbers = self.apply(op, numbers, samples, work);
+            rest = after;
         }
         numbers.item(work, 1)
     }
@@ -486,14 +489,16 @@ impl Core {
     }
 
     // The level of an expression.
-    fn level<K: Lattice>(&self, code: &[Op]) -> u32
+    fn level<K: Lattice>(&self, code: &[u8]) -> u32
         requires few { ⌜ now self .variables ≤ 64 ⌝ ∗ ⌜ now self .ntracks ≤ 8 ⌝ }
         requires good { ⌜ Good (head-of-core (now self)) (now code) ⌝ }
         ensures { λ r. ⌜ r ≡ level-at order (now (self .entry)) (now (code .entry)) ⌝ }
     {
         let mut all = 0;
-        for op in code {
-            all = self.level_one::<K>(*op, all);
+        let mut rest = code;
+        while let Some((op, after)) = first_op(rest) {
+            all = self.level_one::<K>(op, all);
+            rest = after;
         }
         all
     }
@@ -511,7 +516,7 @@ impl Core {
         p: Place,
         st: Step,
         table: &[Step],
-        code: &[Op],
+        code: &[u8],
         marks: &[Mark],
         samples: &[i32],
         work: &mut [i32],
@@ -538,7 +543,7 @@ impl Core {
         p: Place,
         st: Step,
         table: &[Step],
-        code: &[Op],
+        code: &[u8],
         marks: &mut [Mark],
         samples: &[i32],
         work: &mut [i32],
@@ -610,7 +615,7 @@ impl Core {
         &self,
         i: usize,
         st: Step,
-        code: &[Op],
+        code: &[u8],
         samples: &[i32],
         work: &mut [i32],
     ) -> Entry
@@ -644,7 +649,7 @@ impl Core {
         p: Place,
         st: Step,
         table: &[Step],
-        code: &[Op],
+        code: &[u8],
         marks: &[Mark],
         samples: &[i32],
         entries: &mut [Entry],
@@ -690,7 +695,7 @@ impl Core {
         p: Place,
         st: Step,
         table: &[Step],
-        code: &[Op],
+        code: &[u8],
         marks: &mut [Mark],
         samples: &[i32],
         work: &mut [i32],
@@ -727,7 +732,7 @@ impl Core {
         p: Place,
         st: Step,
         table: &[Step],
-        code: &[Op],
+        code: &[u8],
         marks: &[Mark],
     ) -> Status
         requires sized { ⌜ Sized (now self) (now table) (now marks) ⌝ }
@@ -749,7 +754,7 @@ impl Core {
         p: Place,
         st: Step,
         table: &[Step],
-        code: &[Op],
+        code: &[u8],
         marks: &[Mark],
         samples: &[i32],
         work: &mut [i32],
@@ -773,7 +778,7 @@ impl Core {
         &self,
         i: u8,
         table: &[Step],
-        code: &[Op],
+        code: &[u8],
         marks: &[Mark],
         samples: &[i32],
         work: &mut [i32],
@@ -812,7 +817,7 @@ impl Core {
         &mut self,
         i: usize,
         table: &[Step],
-        code: &[Op],
+        code: &[u8],
         marks: &mut [Mark],
         samples: &[i32],
         entries: &mut [Entry],
@@ -907,7 +912,7 @@ impl Core {
         &mut self,
         i: usize,
         table: &[Step],
-        code: &[Op],
+        code: &[u8],
         marks: &mut [Mark],
         samples: &[i32],
         entries: &mut [Entry],
@@ -927,7 +932,7 @@ impl Core {
         &mut self,
         chosen: Option<u8>,
         table: &[Step],
-        code: &[Op],
+        code: &[u8],
         marks: &mut [Mark],
         samples: &[i32],
         entries: &mut [Entry],
@@ -951,7 +956,7 @@ impl Core {
     fn survey<K: Lattice>(
         &self,
         table: &[Step],
-        code: &[Op],
+        code: &[u8],
         marks: &[Mark],
         samples: &[i32],
         work: &mut [i32],
@@ -1010,7 +1015,7 @@ impl<K: Lattice, S: Scheduler> Run<K, S> {
         &mut self,
         ready: [bool; 8],
         table: &[Step],
-        code: &[Op],
+        code: &[u8],
         marks: &mut [Mark],
         samples: &[i32],
         entries: &mut [Entry],
@@ -1033,7 +1038,7 @@ impl<K: Lattice, S: Scheduler> Run<K, S> {
         &mut self,
         n: u32,
         table: &[Step],
-        code: &[Op],
+        code: &[u8],
         marks: &mut [Mark],
         samples: &[i32],
         entries: &mut [Entry],

@@ -1,9 +1,9 @@
 use mathlib.Core.Path.{_≡_}
-use mathlib.Core.List.{[], map}
+use mathlib.Core.List.{[]}
 use Prim.Native.Nat.{_+_, _≤_}
 use lib.Dec.{T}
-use lib.ListN.{length, drop}
-use Rattle.codec.specs.Operations.{op-of}
+use lib.ListN.{length}
+use Rattle.codec.specs.Expressions.{decode}
 use Rattle.codec.specs.Sound.{declared, leaves-one}
 use Rattle.model.specs.Values.{eval}
 use Rattle.monitor.specs.Operations.{numbers-from}
@@ -12,11 +12,14 @@ use Rattle.monitor.proofs.Core.value.Given as given
 
 abbrev pub Inv-loop-op : given.InvT-loop-op
 Inv-loop-op l =
-    let later = map op-of (drop (l .op-index) (l .code)) in
+    let later = decode 0 (l .rest) .ops in
     let cells = cells-of (l .self) in
     let tracks = tracks-of (l .self) (l .samples) in
     T (declared (head-of-core (l .self)) later)
     × T (leaves-one (l .numbers .held) later)
     × (l .numbers .held ≤ 16)
     × (l .numbers .base + 16 ≤ length (l .work))
-    × (eval cells tracks later (numbers-from (l .numbers .base) (l .numbers .held) (l .work)) ≡ eval cells tracks (map op-of (l .code)) [])
+    × (eval cells tracks later (numbers-from (l .numbers .base) (l .numbers .held) (l .work)) ≡ eval cells tracks (decode 0 (l .code) .ops) [])
+
+abbrev pub μ-loop-op : given.MeasureT-loop-op
+μ-loop-op l = length (l .rest)
