@@ -17,6 +17,7 @@ ghost use Rattle.monitor.specs.Turns.{Within, All-fit, Ready-list, over-first,
 ghost use Rattle.model.specs.Values.{truth, apply-binary, apply-unary, sample-at};
 ghost use Rattle.codec.specs.Operations.{op-of, binary-of, unary-of};
 ghost use Rattle.monitor.specs.Operations.{joined-one, Named, taken};
+
 pub mod stack;
 
 use codec::expressions::Binary;

@@ -18,7 +18,10 @@ impl Stack {
         ensures slots { λ _. ⌜ now (slots .exit) ≡ set (now (slots .entry)) (self .base + self .held) item ⌝ }
     {
         slots[self.base + self.held] = item;
-        Stack { base: self.base, held: self.held + 1 }
+        Stack {
+            base: self.base,
+            held: self.held + 1,
+        }
     }
 
     // The same without its topmost n items; their slots stay as they are.
@@ -26,7 +29,10 @@ impl Stack {
         requires { ⌜ n ≤ self .held ⌝ }
         ensures { λ r. ⌜ r ≡ record { base = self .base; held = self .held - n } ⌝ }
     {
-        Stack { base: self.base, held: self.held - n }
+        Stack {
+            base: self.base,
+            held: self.held - n,
+        }
     }
 
     // The item number n from the top on, which is number 1.

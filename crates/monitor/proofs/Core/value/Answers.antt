@@ -54,14 +54,15 @@ loop-op-again c =
     let base : c .apply-numbers .result .base ≡ b = ap (λ (z : Stack). z .base) numbers in
     let held = ap (λ (z : Stack). z .held) numbers in
     let work = c .apply-numbers .ensures .work in
-    let long : length (c .apply-numbers .last .work) ≡ length w = ap length work ∙ length-set w _ _ in
-    (named-first (head-of-core s) o e (subst D more (c .loop-op .inv .0)) .1,
-    subst N (sym numbers) (r .later),
-    (let room = r .room in omega arith),
-    (let before = c .loop-op .inv .3 in omega arith),
-    (λ j. eval cells tracks e (numbers-from (numbers j .base) (numbers j .held) (work j)))
-    ∙ eval-more cells tracks b o e n w (r .few) (r .room) (c .loop-op .inv .3)
-    ∙ ap (λ (z : Expr). eval cells tracks z (numbers-from b n w)) (sym more) ∙ c .loop-op .inv .4)
+    let long : length (c .apply-numbers .last .work) ≡ length w = ap length work ∙ length-set w _ _ in (
+      named-first (head-of-core s) o e (subst D more (c .loop-op .inv .0)) .1,
+      subst N (sym numbers) (r .later),
+      (let room = r .room in omega arith),
+      (let before = c .loop-op .inv .3 in omega arith),
+      (λ j. eval cells tracks e (numbers-from (numbers j .base) (numbers j .held) (work j)))
+          ∙ eval-more cells tracks b o e n w (r .few) (r .room) (c .loop-op .inv .3)
+          ∙ ap (λ (z : Expr). eval cells tracks z (numbers-from b n w)) (sym more) ∙ c .loop-op .inv .4,
+    )
 
 pub item-requires : need.item-requires
 item-requires c κs =
