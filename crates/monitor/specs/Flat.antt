@@ -28,6 +28,7 @@ use Rattle.monitor.specs.declared.Pace.{Pace}
 use Rattle.monitor.specs.declared.Pace.the-variants.{Running, Idling, Finished}
 use Rattle.monitor.specs.declared.Place.{Place}
 use Rattle.monitor.specs.declared.Port.{Port}
+use Rattle.monitor.specs.declared.Turn.{Turn}
 use Rattle.monitor.specs.declared.Entry.{Entry}
 use Rattle.monitor.specs.declared.Core.{Core}
 use Rattle.monitor.specs.Table.{nil-mark, step-at-place, has-bit, bytes-of, Good}
@@ -266,6 +267,10 @@ module _ (k : Levels) (table : List Step) (code : List ℕ) (ss : List ℤ) (i :
   -- One turn of the thread: by its own state and its next frame.
   abbrev pub after-turn : Mem → Mem
   after-turn x = let p = getD (x .core .threads) i nil-place in let st = step-at-place table (p .at) in stepped (p .pace) (st .kind) x p st
+
+-- Thread i at its turn.
+abbrev pub turn-at : Core → List Step → ℕ → Turn
+turn-at c table i = let p = getD (c .threads) i nil-place in record { thread = i; place = p; step = step-at-place table (p .at) }
 
 -- What the memory must be for a turn to be safe
 

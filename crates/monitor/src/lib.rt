@@ -6,7 +6,7 @@ ghost use Prim.Native.Nat.{ℕ, _+_, _-_, _*_, _<_, _≤_};
 ghost use lib.IntN.{pos};
 ghost use lib.ListN.{length, getD, set};
 ghost use Rattle.monitor.specs.Table.{has-bit, Good, nil-step, nil-mark, bytes-of, step-at-place};
-ghost use Rattle.monitor.specs.Flat.{track-of, tracks-of, made-at, value-at, level-at, head-of-core, first-mark, level-inside, guard-marks, guard-threads, arrived, with-place, with-cells, raised, raised-cell, nil-place, Sized, Fit, FitAt, Sound-step, mem, after-turn, skipped, assigned, branched, branch-level, opened, closing, opener-step, beyond, Part, Parts, nil-port, with-channels, added-port, added-entries, new-entry, put-core, put-entries, looped, looped-marks, arrive-in, FitNow, Track-parts, cell-level, track-level};
+ghost use Rattle.monitor.specs.Flat.{turn-at, track-of, tracks-of, made-at, value-at, level-at, head-of-core, first-mark, level-inside, guard-marks, guard-threads, arrived, with-place, with-cells, raised, raised-cell, nil-place, Sized, Fit, FitAt, Sound-step, mem, after-turn, skipped, assigned, branched, branch-level, opened, closing, opener-step, beyond, Part, Parts, nil-port, with-channels, added-port, added-entries, new-entry, put-core, put-entries, looped, looped-marks, arrive-in, FitNow, Track-parts, cell-level, track-level};
 ghost use mathlib.Core.Option.{some};
 ghost use mathlib.Core.List.{[]};
 ghost use Rattle.script.specs.Code.{Script};
@@ -110,6 +110,14 @@ pub struct Entry {
     pub thread: u8,
     pub mark: bool,
     pub value: i32,
+}
+
+// A thread at its turn: its number, where it stands, and the step there.
+#[derive(Clone, Copy)]
+pub struct Turn {
+    thread: usize,
+    place: Place,
+    step: Step,
 }
 
 // A track or a channel, and its part of the lent memory.
@@ -241,11 +249,12 @@ fn raise_cell<K: Lattice>(cell: Cell, mask: u64, x: u8, level: u32) -> Cell
 }
 
 // The step that opened the innermost of `depth` blocks.
-fn opener(table: &[Step], marks: &[Mark], base: usize, depth: u8) -> Step
-    requires { ⌜ base ≤ 128 ⌝ ∗ ⌜ 0 < depth ⌝ ∗ ⌜ base + depth ≤ length (now marks) ⌝ ∗ ⌜ getD (now marks) (base + (depth - 1)) nil-mark .opener < length (now table) ⌝ }
-    ensures { λ r. ⌜ r ≡ opener-step (now (table .entry)) (now (marks .entry)) base depth ⌝ }
+fn opener(table: &[Step], marks: &[Mark], t: Turn) -> Step
+    requires thread { ⌜ t .thread < 8 ⌝ ∗ ⌜ 0 < t .place .depth ⌝ ∗ ⌜ first-mark (t .thread) + t .place .depth ≤ length (now marks) ⌝ }
+    requires opener { ⌜ getD (now marks) (first-mark (t .thread) + (t .place .depth - 1)) nil-mark .opener < length (now table) ⌝ }
+    ensures { λ r. ⌜ r ≡ opener-step (now (table .entry)) (now (marks .entry)) (first-mark (t .thread)) (t .place .depth) ⌝ }
 {
-    table[innermost(marks, base, depth).opener as usize]
+    table[innermost(marks, t.thread * 16, t.place.depth).opener as usize]
 }
 
 fn owned(table: &[Step], marks: &[Mark], base: usize, depth: u8) -> u16
@@ -504,18 +513,16 @@ impl Core {
         all
     }
 
-    fn skip(&mut self, i: usize, p: Place, table: &[Step])
-        requires { ⌜ i < 8 ⌝ ∗ ⌜ length (now table) ≤ 512 ⌝ ∗ ⌜ p .at + 1 < length (now table) ⌝ }
-        ensures { λ _. ⌜ now (self .exit) ≡ skipped (now (table .entry)) i (now (self .entry)) p ⌝ }
+    fn skip(&mut self, t: Turn, table: &[Step])
+        requires { ⌜ t .thread < 8 ⌝ ∗ ⌜ length (now table) ≤ 512 ⌝ ∗ ⌜ t .place .at + 1 < length (now table) ⌝ }
+        ensures { λ _. ⌜ now (self .exit) ≡ skipped (now (table .entry)) (t .thread) (now (self .entry)) (t .place) ⌝ }
     {
-        self.arrive_at(i, table, p.at + 1, p.depth);
+        self.arrive_at(t.thread, table, t.place.at + 1, t.place.depth);
     }
 
     fn assign<K: Lattice>(
         &mut self,
-        i: usize,
-        p: Place,
-        st: Step,
+        t: Turn,
         table: &[Step],
         code: &[u8],
         marks: &[Mark],
@@ -523,26 +530,24 @@ impl Core {
         work: &mut [i32],
     )
         requires sized { ⌜ Sized (now self) (now table) (now marks) ⌝ }
-        requires fit { ⌜ FitAt Kind.Assign (now self) (now table) (now code) p st ⌝ }
-        requires small { ⌜ i < 8 ⌝ ∗ ⌜ 16 ≤ length (now work) ⌝ }
+        requires fit { ⌜ FitAt Kind.Assign (now self) (now table) (now code) (t .place) (t .step) ⌝ }
+        requires small { ⌜ t .thread < 8 ⌝ ∗ ⌜ 16 ≤ length (now work) ⌝ }
         requires tracks { ⌜ Track-parts (now self) (now samples) ⌝ }
-        ensures { λ _. ⌜ now (self .exit) ≡ assigned order (now (table .entry)) (now (code .entry)) (now (samples .entry)) i (now (self .entry)) (now (marks .entry)) p st ⌝ }
+        ensures { λ _. ⌜ now (self .exit) ≡ assigned order (now (table .entry)) (now (code .entry)) (now (samples .entry)) (t .thread) (now (self .entry)) (now (marks .entry)) (t .place) (t .step) ⌝ }
     {
-        let bytes = expression(code, st);
+        let bytes = expression(code, t.step);
         let value = self.value(bytes, samples, work);
         let level = K::join(
             self.level::<K>(bytes),
-            self.guard::<K>(table, marks, st.number),
+            self.guard::<K>(table, marks, t.step.number),
         );
-        self.cells[st.number as usize] = Cell { value, level };
-        self.arrive_at(i, table, p.at + 1, p.depth);
+        self.cells[t.step.number as usize] = Cell { value, level };
+        self.arrive_at(t.thread, table, t.place.at + 1, t.place.depth);
     }
 
     fn branch<K: Lattice>(
         &mut self,
-        i: usize,
-        p: Place,
-        st: Step,
+        t: Turn,
         table: &[Step],
         code: &[u8],
         marks: &mut [Mark],
@@ -550,46 +555,49 @@ impl Core {
         work: &mut [i32],
     )
         requires sized { ⌜ Sized (now self) (now table) (now marks) ⌝ }
-        requires fit { ⌜ FitAt Kind.If (now self) (now table) (now code) p st ⌝ }
-        requires small { ⌜ i < 8 ⌝ ∗ ⌜ 16 ≤ length (now work) ⌝ }
+        requires fit { ⌜ FitAt Kind.If (now self) (now table) (now code) (t .place) (t .step) ⌝ }
+        requires small { ⌜ t .thread < 8 ⌝ ∗ ⌜ 16 ≤ length (now work) ⌝ }
         requires tracks { ⌜ Track-parts (now self) (now samples) ⌝ }
-        ensures core { λ _. ⌜ now (self .exit) ≡ branched order (now (table .entry)) (now (code .entry)) (now (samples .entry)) i (now (self .entry)) (now (marks .entry)) p st ⌝ }
-        ensures marks { λ _. ⌜ now (marks .exit) ≡ opened i (now (marks .entry)) p (branch-level order (now (code .entry)) i (now (self .entry)) (now (marks .entry)) p st) ⌝ }
+        ensures core { λ _. ⌜ now (self .exit) ≡ branched order (now (table .entry)) (now (code .entry)) (now (samples .entry)) (t .thread) (now (self .entry)) (now (marks .entry)) (t .place) (t .step) ⌝ }
+        ensures marks { λ _. ⌜ now (marks .exit) ≡ opened (t .thread) (now (marks .entry)) (t .place) (branch-level order (now (code .entry)) (t .thread) (now (self .entry)) (now (marks .entry)) (t .place) (t .step)) ⌝ }
     {
-        let bytes = expression(code, st);
-        let base = i * 16;
-        let level = K::join(context_level(marks, base, p.depth), self.level::<K>(bytes));
+        let bytes = expression(code, t.step);
+        let base = t.thread * 16;
+        let level = K::join(
+            context_level(marks, base, t.place.depth),
+            self.level::<K>(bytes),
+        );
         let zero = self.value(bytes, samples, work) == 0;
-        self.raise::<K>(st.assigned, level);
-        let _ = open_blocks(base, p.depth).push(
+        self.raise::<K>(t.step.assigned, level);
+        let _ = open_blocks(base, t.place.depth).push(
             marks,
             Mark {
-                opener: p.at,
+                opener: t.place.at,
                 level,
             },
         );
         self.arrive_at(
-            i,
+            t.thread,
             table,
-            if zero { st.other } else { p.at + 1 },
-            p.depth + 1,
+            if zero { t.step.other } else { t.place.at + 1 },
+            t.place.depth + 1,
         );
     }
 
-    fn close(&mut self, i: usize, n: u16, p: Place, st: Step, table: &[Step])
-        requires { ⌜ i < 8 ⌝ ∗ ⌜ p .at < 512 ⌝ ∗ ⌜ 0 < p .depth ⌝ ∗ ⌜ beyond (st .kind) (st .other) (p .at) < length (now table) ⌝ }
-        ensures { λ _. ⌜ now (self .exit) ≡ closing (now (table .entry)) i n (now (self .entry)) p st ⌝ }
+    fn close(&mut self, t: Turn, n: u16, table: &[Step])
+        requires { ⌜ t .thread < 8 ⌝ ∗ ⌜ t .place .at < 512 ⌝ ∗ ⌜ 0 < t .place .depth ⌝ ∗ ⌜ beyond (t .step .kind) (t .step .other) (t .place .at) < length (now table) ⌝ }
+        ensures { λ _. ⌜ now (self .exit) ≡ closing (now (table .entry)) (t .thread) n (now (self .entry)) (t .place) (t .step) ⌝ }
     {
         if n == 0 {
-            let to = match st.kind {
-                Kind::Else => st.other,
-                _ => p.at + 1,
+            let to = match t.step.kind {
+                Kind::Else => t.step.other,
+                _ => t.place.at + 1,
             };
-            self.arrive_at(i, table, to, p.depth - 1);
+            self.arrive_at(t.thread, table, to, t.place.depth - 1);
         } else {
-            self.threads[i] = Place {
-                at: p.at,
-                depth: p.depth,
+            self.threads[t.thread] = Place {
+                at: t.place.at,
+                depth: t.place.depth,
                 pace: Pace::Idling(n - 1),
             };
         }
@@ -612,24 +620,17 @@ impl Core {
     }
 
     // What a put puts, if it puts anything.
-    fn entry<K: Lattice>(
-        &self,
-        i: usize,
-        st: Step,
-        code: &[u8],
-        samples: &[i32],
-        work: &mut [i32],
-    ) -> Entry
-        requires fit { ⌜ Sound-step (now self) (now code) st ⌝ ∗ ⌜ st .number < 8 ⌝ }
+    fn entry<K: Lattice>(&self, t: Turn, code: &[u8], samples: &[i32], work: &mut [i32]) -> Entry
+        requires fit { ⌜ Sound-step (now self) (now code) (t .step) ⌝ ∗ ⌜ t .step .number < 8 ⌝ }
         requires few { ⌜ now self .variables ≤ 64 ⌝ ∗ ⌜ now self .ntracks ≤ 8 ⌝ }
-        requires small { ⌜ i < 8 ⌝ ∗ ⌜ 16 ≤ length (now work) ⌝ ∗ ⌜ now self .turns ≤ 1000000 ⌝ }
+        requires small { ⌜ t .thread < 8 ⌝ ∗ ⌜ 16 ≤ length (now work) ⌝ ∗ ⌜ now self .turns ≤ 1000000 ⌝ }
         requires tracks { ⌜ Track-parts (now self) (now samples) ⌝ }
-        ensures { λ r. ⌜ r ≡ new-entry order (now (code .entry)) (now (samples .entry)) i (now (self .entry)) st ⌝ }
+        ensures { λ r. ⌜ r ≡ new-entry order (now (code .entry)) (now (samples .entry)) (t .thread) (now (self .entry)) (t .step) ⌝ }
     {
-        let bytes = expression(code, st);
+        let bytes = expression(code, t.step);
         let open = K::flows(
             self.level::<K>(bytes),
-            self.channels[st.number as usize].level,
+            self.channels[t.step.number as usize].level,
         );
         let value = if open {
             self.value(bytes, samples, work)
@@ -638,7 +639,7 @@ impl Core {
         };
         Entry {
             turn: self.turns + 1,
-            thread: i as u8,
+            thread: t.thread as u8,
             mark: !open,
             value,
         }
@@ -646,9 +647,7 @@ impl Core {
 
     fn put<K: Lattice>(
         &mut self,
-        i: usize,
-        p: Place,
-        st: Step,
+        t: Turn,
         table: &[Step],
         code: &[u8],
         marks: &[Mark],
@@ -657,44 +656,43 @@ impl Core {
         work: &mut [i32],
     )
         requires sized { ⌜ Sized (now self) (now table) (now marks) ⌝ ∗ ⌜ Parts (now self) (now entries) ⌝ }
-        requires fit { ⌜ FitAt Kind.Put (now self) (now table) (now code) p st ⌝ ∗ ⌜ p .depth ≤ 16 ⌝ }
-        requires small { ⌜ i < 8 ⌝ ∗ ⌜ 16 ≤ length (now work) ⌝ }
+        requires fit { ⌜ FitAt Kind.Put (now self) (now table) (now code) (t .place) (t .step) ⌝ ∗ ⌜ t .place .depth ≤ 16 ⌝ }
+        requires small { ⌜ t .thread < 8 ⌝ ∗ ⌜ 16 ≤ length (now work) ⌝ }
         requires tracks { ⌜ Track-parts (now self) (now samples) ⌝ }
-        ensures core { λ _. ⌜ now (self .exit) ≡ put-core order (now (table .entry)) (now (code .entry)) (now (samples .entry)) i (now (self .entry)) (now (marks .entry)) p st ⌝ }
-        ensures entries { λ _. ⌜ now (entries .exit) ≡ put-entries order (now (table .entry)) (now (code .entry)) (now (samples .entry)) i (now (self .entry)) (now (marks .entry)) p st (now (entries .entry)) ⌝ }
+        ensures core { λ _. ⌜ now (self .exit) ≡ put-core order (now (table .entry)) (now (code .entry)) (now (samples .entry)) (t .thread) (now (self .entry)) (now (marks .entry)) (t .place) (t .step) ⌝ }
+        ensures entries { λ _. ⌜ now (entries .exit) ≡ put-entries order (now (table .entry)) (now (code .entry)) (now (samples .entry)) (t .thread) (now (self .entry)) (now (marks .entry)) (t .place) (t .step) (now (entries .entry)) ⌝ }
     {
-        let h = st.number as usize;
+        let h = t.step.number as usize;
         if K::flows(
-            context_level(marks, i * 16, p.depth),
+            context_level(marks, t.thread * 16, t.place.depth),
             self.channels[h].level,
         ) {
-            let entry = self.entry::<K>(i, st, code, samples, work);
+            let entry = self.entry::<K>(t, code, samples, work);
             self.add_entry(h, entry, entries);
         }
-        self.arrive_at(i, table, p.at + 1, p.depth);
+        self.arrive_at(t.thread, table, t.place.at + 1, t.place.depth);
     }
 
     // Into a block: it is marked with the level inside it.
-    fn enter(&mut self, i: usize, p: Place, level: u32, table: &[Step], marks: &mut [Mark])
-        requires { ⌜ i < 8 ⌝ ∗ ⌜ length (now table) ≤ 512 ⌝ ∗ ⌜ p .at + 1 < length (now table) ⌝ ∗ ⌜ p .depth < 16 ⌝ ∗ ⌜ 128 ≤ length (now marks) ⌝ }
-        ensures core { λ _. ⌜ now (self .exit) ≡ arrive-in (now (table .entry)) i (now (self .entry)) (p .at + 1) (p .depth + 1) ⌝ }
-        ensures marks { λ _. ⌜ now (marks .exit) ≡ opened i (now (marks .entry)) p level ⌝ }
+    fn enter(&mut self, t: Turn, table: &[Step], marks: &mut [Mark])
+        requires { ⌜ t .thread < 8 ⌝ ∗ ⌜ length (now table) ≤ 512 ⌝ ∗ ⌜ t .place .at + 1 < length (now table) ⌝ ∗ ⌜ t .place .depth < 16 ⌝ ∗ ⌜ 128 ≤ length (now marks) ⌝ }
+        ensures core { λ _. ⌜ now (self .exit) ≡ arrive-in (now (table .entry)) (t .thread) (now (self .entry)) (t .place .at + 1) (t .place .depth + 1) ⌝ }
+        ensures marks { λ _. ⌜ now (marks .exit) ≡ opened (t .thread) (now (marks .entry)) (t .place) (level-inside (now (marks .entry)) (first-mark (t .thread)) (t .place .depth)) ⌝ }
     {
-        let _ = open_blocks(i * 16, p.depth).push(
+        let level = context_level(marks, t.thread * 16, t.place.depth);
+        let _ = open_blocks(t.thread * 16, t.place.depth).push(
             marks,
             Mark {
-                opener: p.at,
+                opener: t.place.at,
                 level,
             },
         );
-        self.arrive_at(i, table, p.at + 1, p.depth + 1);
+        self.arrive_at(t.thread, table, t.place.at + 1, t.place.depth + 1);
     }
 
     fn repeat(
         &mut self,
-        i: usize,
-        p: Place,
-        st: Step,
+        t: Turn,
         table: &[Step],
         code: &[u8],
         marks: &mut [Mark],
@@ -702,16 +700,16 @@ impl Core {
         work: &mut [i32],
     )
         requires sized { ⌜ Sized (now self) (now table) (now marks) ⌝ }
-        requires fit { ⌜ FitAt Kind.While (now self) (now table) (now code) p st ⌝ }
-        requires small { ⌜ i < 8 ⌝ ∗ ⌜ 16 ≤ length (now work) ⌝ }
+        requires fit { ⌜ FitAt Kind.While (now self) (now table) (now code) (t .place) (t .step) ⌝ }
+        requires small { ⌜ t .thread < 8 ⌝ ∗ ⌜ 16 ≤ length (now work) ⌝ }
         requires tracks { ⌜ Track-parts (now self) (now samples) ⌝ }
-        ensures core { λ _. ⌜ now (self .exit) ≡ looped (now (table .entry)) (now (code .entry)) (now (samples .entry)) i (now (self .entry)) p st ⌝ }
-        ensures marks { λ _. ⌜ now (marks .exit) ≡ looped-marks (now (code .entry)) (now (samples .entry)) i (now (self .entry)) (now (marks .entry)) p st ⌝ }
+        ensures core { λ _. ⌜ now (self .exit) ≡ looped (now (table .entry)) (now (code .entry)) (now (samples .entry)) (t .thread) (now (self .entry)) (t .place) (t .step) ⌝ }
+        ensures marks { λ _. ⌜ now (marks .exit) ≡ looped-marks (now (code .entry)) (now (samples .entry)) (t .thread) (now (self .entry)) (now (marks .entry)) (t .place) (t .step) ⌝ }
     {
-        if self.value(expression(code, st), samples, work) == 0 {
-            self.arrive_at(i, table, st.other, p.depth);
+        if self.value(expression(code, t.step), samples, work) == 0 {
+            self.arrive_at(t.thread, table, t.step.other, t.place.depth);
         } else {
-            self.enter(i, p, context_level(marks, i * 16, p.depth), table, marks);
+            self.enter(t, table, marks);
         }
     }
 
@@ -813,6 +811,37 @@ impl Core {
         }
     }
 
+    // Thread i, where it stands, and the step there.
+    fn turn_at(&self, i: usize, table: &[Step]) -> Turn
+        requires { ⌜ i < 8 ⌝ ∗ ⌜ getD (now self .threads) i nil-place .at < length (now table) ⌝ }
+        ensures { λ r. ⌜ r ≡ turn-at (now (self .entry)) (now (table .entry)) i ⌝ }
+    {
+        let place = self.threads[i];
+        Turn {
+            thread: i,
+            place,
+            step: table[place.at as usize],
+        }
+    }
+
+    // From the end of a while back to its test.
+    fn return_to_test(&mut self, t: Turn, table: &[Step], marks: &[Mark])
+        requires thread { ⌜ t .thread < 8 ⌝ ∗ ⌜ 0 < t .place .depth ⌝ ∗ ⌜ first-mark (t .thread) + t .place .depth ≤ length (now marks) ⌝ }
+        requires opener { ⌜ getD (now marks) (first-mark (t .thread) + (t .place .depth - 1)) nil-mark .opener < length (now table) ⌝ }
+        ensures { λ _. ⌜ now (self .exit) ≡ arrive-in (now (table .entry)) (t .thread) (now (self .entry)) (getD (now (marks .entry)) (first-mark (t .thread) + (t .place .depth - 1)) nil-mark .opener) (t .place .depth - 1) ⌝ }
+    {
+        let opener = innermost(marks, t.thread * 16, t.place.depth).opener;
+        self.arrive_at(t.thread, table, opener, t.place.depth - 1);
+    }
+
+    // Out of a with.
+    fn leave(&mut self, t: Turn, table: &[Step])
+        requires { ⌜ t .thread < 8 ⌝ ∗ ⌜ 0 < t .place .depth ⌝ ∗ ⌜ t .place .at < 512 ⌝ ∗ ⌜ t .place .at + 1 < length (now table) ⌝ }
+        ensures { λ _. ⌜ now (self .exit) ≡ arrive-in (now (table .entry)) (t .thread) (now (self .entry)) (t .place .at + 1) (t .place .depth - 1) ⌝ }
+    {
+        self.arrive_at(t.thread, table, t.place.at + 1, t.place.depth - 1);
+    }
+
     // One turn of thread i: by its own state and its next frame.
     fn step<K: Lattice>(
         &mut self,
@@ -829,50 +858,17 @@ impl Core {
         requires tracks { ⌜ Track-parts (now self) (now samples) ⌝ }
         ensures { λ _. ⌜ mem (now (self .exit)) (now (marks .exit)) (now (entries .exit)) ≡ after-turn order (now (table .entry)) (now (code .entry)) (now (samples .entry)) i (mem (now (self .entry)) (now (marks .entry)) (now (entries .entry))) ⌝ }
     {
-        let p = self.threads[i];
-        let st = table[p.at as usize];
-        match (p.pace, st.kind) {
+        let t = self.turn_at(i, table);
+        match (t.place.pace, t.step.kind) {
             (Pace::Finished, _) => {}
-            (Pace::Idling(n), _) => self.close(i, n, p, st, table),
-            (Pace::Running, Kind::Skip) => self.skip(i, p, table),
-            (Pace::Running, Kind::Assign) => self.assign::<K>(
-                i,
-                p,
-                st,
-                table,
-                code,
-                marks,
-                samples,
-                work,
-            ),
-            (Pace::Running, Kind::If) => self.branch::<K>(
-                i,
-                p,
-                st,
-                table,
-                code,
-                marks,
-                samples,
-                work,
-            ),
-            (Pace::Running, Kind::Else) => self.close(
-                i,
-                opener(table, marks, i * 16, p.depth).first,
-                p,
-                st,
-                table,
-            ),
-            (Pace::Running, Kind::EndIf) => self.close(
-                i,
-                opener(table, marks, i * 16, p.depth).second,
-                p,
-                st,
-                table,
-            ),
+            (Pace::Idling(n), _) => self.close(t, n, table),
+            (Pace::Running, Kind::Skip) => self.skip(t, table),
+            (Pace::Running, Kind::Assign) => self.assign::<K>(t, table, code, marks, samples, work),
+            (Pace::Running, Kind::If) => self.branch::<K>(t, table, code, marks, samples, work),
+            (Pace::Running, Kind::Else) => self.close(t, opener(table, marks, t).first, table),
+            (Pace::Running, Kind::EndIf) => self.close(t, opener(table, marks, t).second, table),
             (Pace::Running, Kind::Put) => self.put::<K>(
-                i,
-                p,
-                st,
+                t,
                 table,
                 code,
                 marks,
@@ -880,30 +876,10 @@ impl Core {
                 entries,
                 work,
             ),
-            (Pace::Running, Kind::While) => self.repeat(
-                i,
-                p,
-                st,
-                table,
-                code,
-                marks,
-                samples,
-                work,
-            ),
-            (Pace::Running, Kind::EndWhile) => self.arrive_at(
-                i,
-                table,
-                innermost(marks, i * 16, p.depth).opener,
-                p.depth - 1,
-            ),
-            (Pace::Running, Kind::With) => self.enter(
-                i,
-                p,
-                context_level(marks, i * 16, p.depth),
-                table,
-                marks,
-            ),
-            (Pace::Running, Kind::EndWith) => self.arrive_at(i, table, p.at + 1, p.depth - 1),
+            (Pace::Running, Kind::While) => self.repeat(t, table, code, marks, samples, work),
+            (Pace::Running, Kind::EndWhile) => self.return_to_test(t, table, marks),
+            (Pace::Running, Kind::With) => self.enter(t, table, marks),
+            (Pace::Running, Kind::EndWith) => self.leave(t, table),
             (Pace::Running, Kind::Other | Kind::End) => {}
         }
     }
