@@ -22,7 +22,7 @@ leveled-length ms b zero (o ∷ os) h = absurd h
 leveled-length ms b (suc d) [] h = absurd h
 leveled-length ms b (suc d) (o ∷ os) h = ap suc (leveled-length ms b d os (h .1))
 
--- The level inside the innermost block is the place level.
+-- The level inside the innermost block is the context level.
 pub level-inside-is : (ms : List Mark) (b d : ℕ) (os : List Open) → Leveled ms b d os → level-inside ms b d ≡ context os
 level-inside-is ms b zero [] h = refl
 level-inside-is ms b zero (o ∷ os) h = absurd h

@@ -33,44 +33,57 @@ use Rattle.monitor.specs.declared.Entry.{Entry}
 use Rattle.monitor.specs.declared.Core.{Core}
 use Rattle.monitor.specs.Table.{nil-mark, step-at-place, has-bit, bytes-of, Good}
 
+-- What is read past the cells.
 abbrev pub nil-cell : Cell
 nil-cell = record { value = pos 0; level = 0 }
 
+-- What is read past the threads.
 abbrev pub nil-place : Place
 nil-place = record { at = 0; depth = 0; pace = Running }
 
+-- What is read past the tracks or the channels.
 abbrev pub nil-port : Port
 nil-port = record { level = 0; start = 0; size = 0; count = 0; missed = 0 }
 
 -- The state that memory stands for
 
+-- A variable.
 abbrev pub cell-of : Cell → ModelCell
 cell-of c = record { value = c .value; level = c .level }
 
+-- The variables that the script declares.
 abbrev pub cells-of : Core → List ModelCell
 cells-of c = map cell-of (take (c .variables) (c .cells))
 
+-- What was fed to a track: the first samples of its part.
 abbrev pub track-of : List ℤ → Port → List ℤ
 track-of ss p = take (p .count) (drop (p .start) ss)
 
+-- What was fed to each track.
 abbrev pub tracks-of : Core → List ℤ → List (List ℤ)
 tracks-of c ss = map (track-of ss) (take (c .ntracks) (c .tracks))
 
+-- The level of a track or a channel.
 abbrev pub level-of-port : Port → ℕ
 level-of-port p = p .level
 
+-- The levels of the tracks.
 abbrev pub track-levels-of : Core → List ℕ
 track-levels-of c = map level-of-port (take (c .ntracks) (c .tracks))
 
+-- An entry of a channel.
 abbrev pub entry-of : Entry → ModelEntry
 entry-of e = record { turn = e .turn; thread = e .thread; mark = e .mark; value = e .value }
 
+-- A channel: the first entries of its part, and how many it missed.
 abbrev pub channel-of : List Entry → Port → Channel
 channel-of es p = record { entries = map entry-of (take (p .count) (drop (p .start) es)); missed = p .missed }
 
+-- The channels.
 abbrev pub channels-of : Core → List Entry → List Channel
 channels-of c es = map (channel-of es) (take (c .nchannels) (c .channels))
 
+-- The state: all of it is read from memory but the threads.
 abbrev pub state-of : Core → List ℤ → List Entry → List Thread → State
 state-of c ss es ts = record { cells = cells-of c; threads = ts; tracks = tracks-of c ss; channels = channels-of c es; turns = c .turns }
 
@@ -80,6 +93,7 @@ Track-parts c ss = (t : ℕ) → t < c .ntracks → (getD (c .tracks) t nil-port
 
 -- Expressions
 
+-- The value of an expression's bytes.
 abbrev pub value-at : Core → List ℤ → List ℕ → ℤ
 value-at c ss bytes = top (eval (cells-of c) (tracks-of c ss) (decode 0 bytes .ops) [])
 
@@ -87,12 +101,15 @@ value-at c ss bytes = top (eval (cells-of c) (tracks-of c ss) (decode 0 bytes .o
 abbrev pub made-at : Core → List ℤ → Op → Stack → List ℤ → ℤ
 made-at c ss o s w = made (cells-of c) (tracks-of c ss) (op-of o) (getD w (s .base + (s .held - 2)) (pos 0)) (getD w (s .base + (s .held - 1)) (pos 0))
 
+-- The level of a variable.
 abbrev pub cell-level : Core → ℕ → ℕ
 cell-level c x = getD (cells-of c) x blank .level
 
+-- The level of a track.
 abbrev pub track-level : Core → ℕ → ℕ
 track-level c t = getD (track-levels-of c) t 0
 
+-- The level of an expression's bytes.
 abbrev pub level-at : Levels → Core → List ℕ → ℕ
 level-at k c bytes = joined k (cell-level c) (track-level c) (decode 0 bytes .ops) 0
 
@@ -102,6 +119,7 @@ head-of-core c = record { version = 1; kind = 0; threads = c .count; variables =
 
 -- Open blocks
 
+-- The slot of a thread's first mark.
 abbrev pub first-mark : ℕ → ℕ
 first-mark i = i * 16
 
@@ -110,6 +128,7 @@ abbrev pub level-inside : List Mark → ℕ → ℕ → ℕ
 level-inside ms b d = cond (eqb d 0) 0 (getD ms (b + (d - 1)) nil-mark .level)
 
 module _ (k : Levels) (table : List Step) (ms : List Mark) where
+  -- One block's part of the guard on variable x: its level, if it assigns x in either way.
   abbrev pub guard-one : ℕ → ℕ → ℕ → ℕ
   guard-one x j acc = let mk = getD ms j nil-mark in cond (has-bit (step-at-place table (mk .opener) .assigned) x) (k .join acc (mk .level)) acc
 
@@ -125,6 +144,7 @@ module _ (k : Levels) (table : List Step) (ms : List Mark) where
 
 -- Threads
 
+-- The pace of a thread that comes to a frame.
 abbrev pub pace-at : Kind → Pace
 pace-at Other = Running
 pace-at End = Finished
@@ -139,15 +159,19 @@ pace-at EndWhile = Running
 pace-at With = Running
 pace-at EndWith = Running
 
+-- The place of a thread that comes to frame p inside d blocks.
 abbrev pub arrived : List Step → ℕ → ℕ → Place
 arrived table p d = record { at = p; depth = d; pace = pace-at (step-at-place table p .kind) }
 
+-- A run with one thread elsewhere.
 abbrev pub with-place : Core → ℕ → Place → Core
 with-place c i p = record { variables = c .variables; cells = c .cells; count = c .count; threads = set (c .threads) i p; ntracks = c .ntracks; tracks = c .tracks; nchannels = c .nchannels; channels = c .channels; turns = c .turns }
 
+-- A run with other cells.
 abbrev pub with-cells : Core → List Cell → Core
 with-cells c cs = record { variables = c .variables; cells = cs; count = c .count; threads = c .threads; ntracks = c .ntracks; tracks = c .tracks; nchannels = c .nchannels; channels = c .channels; turns = c .turns }
 
+-- A run with other channels.
 abbrev pub with-channels : Core → List Port → Core
 with-channels c ps = record { variables = c .variables; cells = c .cells; count = c .count; threads = c .threads; ntracks = c .ntracks; tracks = c .tracks; nchannels = c .nchannels; channels = ps; turns = c .turns }
 
@@ -162,11 +186,13 @@ raised k mask l cs (suc n) = let before = raised k mask l cs n in set before n (
 
 -- One turn
 
+-- What a turn changes: the run, the marks and the entries.
 pub record Mem : Type 0 where
   pub core : Core
   pub marks : List Mark
   pub entries : List Entry
 
+-- These three as one.
 abbrev pub mem : Core → List Mark → List Entry → Mem
 mem c ms es = record { core = c; marks = ms; entries = es }
 
@@ -190,12 +216,15 @@ abbrev pub opener-step : List Step → List Mark → ℕ → ℕ → Step
 opener-step table ms b d = step-at-place table (getD ms (b + (d - 1)) nil-mark .opener)
 
 module _ (table : List Step) (i : ℕ) where
+  -- Thread i comes to frame p inside d blocks.
   abbrev pub arrive-in : Core → ℕ → ℕ → Core
   arrive-in c p d = with-place c i (arrived table p d)
 
+  -- A skip: one frame on.
   abbrev pub skipped : Core → Place → Core
   skipped c p = arrive-in c (p .at + 1) (p .depth)
 
+  -- The end of a way with n idle turns left: one fewer, or out of the branch.
   abbrev pub closing : ℕ → Core → Place → Step → Core
   closing n c p st = cond (eqb n 0) (arrive-in c (beyond (st .kind) (st .other) (p .at)) (p .depth - 1)) (with-place c i (record { at = p .at; depth = p .depth; pace = Idling (n - 1) }))
 
@@ -203,35 +232,43 @@ module _ (table : List Step) (i : ℕ) where
 abbrev pub added-port : Port → Port
 added-port q = let room = ltb (q .count) (q .size) in record { level = q .level; start = q .start; size = q .size; count = cond room (q .count + 1) (q .count); missed = cond room (q .missed) (q .missed + 1) }
 
+-- The entries with one more, where there is room.
 abbrev pub added-entries : Port → Entry → List Entry → List Entry
 added-entries q e es = cond (ltb (q .count) (q .size)) (set es (q .start + q .count) e) es
 
+-- The marks of thread i with one more: the block that the frame at its place opens, and the level inside it.
 abbrev pub opened : ℕ → List Mark → Place → ℕ → List Mark
 opened i ms p l = set ms (first-mark i + p .depth) (record { opener = p .at; level = l })
 
+-- The level of a branch: the context level joined with the level of its test.
 abbrev pub branch-level : Levels → List ℕ → ℕ → Core → List Mark → Place → Step → ℕ
 branch-level k code i c ms p st = k .join (level-inside ms (first-mark i) (p .depth)) (level-at k c (bytes-of code st))
 
 module _ (k : Levels) (code : List ℕ) (ss : List ℤ) (i : ℕ) where
+  -- What a put leaves: the value, or a mark where its level may not flow to the channel.
   abbrev pub new-entry : Core → Step → Entry
   new-entry c st =
       let open-to = k .flows (level-at k c (bytes-of code st)) (getD (c .channels) (st .number) nil-port .level) in
       record { turn = c .turns + 1; thread = i; mark = not open-to; value = cond open-to (value-at c ss (bytes-of code st)) (pos 0) }
 
 module _ (table : List Step) (code : List ℕ) (ss : List ℤ) (i : ℕ) where
+  -- A while: past its end, or into its body.
   abbrev pub looped : Core → Place → Step → Core
   looped c p st = cond (is-zero (value-at c ss (bytes-of code st))) (arrive-in table i c (st .other) (p .depth)) (arrive-in table i c (p .at + 1) (p .depth + 1))
 
 module _ (code : List ℕ) (ss : List ℤ) (i : ℕ) where
+  -- The marks behind a while: one more if it goes into its body.
   abbrev pub looped-marks : Core → List Mark → Place → Step → List Mark
   looped-marks c ms p st = cond (is-zero (value-at c ss (bytes-of code st))) ms (opened i ms p (level-inside ms (first-mark i) (p .depth)))
 
 module _ (k : Levels) (table : List Step) (code : List ℕ) (ss : List ℤ) (i : ℕ) where
+  -- An assignment: the value, at its level joined with the guard.
   abbrev pub assigned : Core → List Mark → Place → Step → Core
   assigned c ms p st =
       let bytes = bytes-of code st in
       arrive-in table i (with-cells c (set (c .cells) (st .number) (record { value = value-at c ss bytes; level = k .join (level-at k c bytes) (guard-threads k table ms (st .number) (c .threads) (c .count)) }))) (p .at + 1) (p .depth)
 
+  -- A branch: what either way assigns is raised, and one way is taken.
   abbrev pub branched : Core → List Mark → Place → Step → Core
   branched c ms p st =
       arrive-in table i (with-cells c (raised k (st .assigned) (branch-level k code i c ms p st) (c .cells) (c .variables)))
@@ -241,13 +278,16 @@ module _ (k : Levels) (table : List Step) (code : List ℕ) (ss : List ℤ) (i :
   abbrev pub may-put : Core → List Mark → Place → Step → Bool
   may-put c ms p st = k .flows (level-inside ms (first-mark i) (p .depth)) (getD (c .channels) (st .number) nil-port .level)
 
+  -- A put on the run: one entry more or one more missed, where the context level may flow to the channel.
   abbrev pub put-core : Core → List Mark → Place → Step → Core
   put-core c ms p st =
       arrive-in table i (cond (may-put c ms p st) (with-channels c (set (c .channels) (st .number) (added-port (getD (c .channels) (st .number) nil-port)))) c) (p .at + 1) (p .depth)
 
+  -- A put on the entries.
   abbrev pub put-entries : Core → List Mark → Place → Step → List Entry → List Entry
   put-entries c ms p st es = cond (may-put c ms p st) (added-entries (getD (c .channels) (st .number) nil-port) (new-entry k code ss i c st) es) es
 
+  -- One turn by the thread's pace and the kind of its next frame.
   abbrev pub stepped : Pace → Kind → Mem → Place → Step → Mem
   stepped Finished kd x p st = x
   stepped (Idling n) kd x p st = mem (closing table i n (x .core) p st) (x .marks) (x .entries)
@@ -280,6 +320,7 @@ pub record Sound-step (c : Core) (code : List ℕ) (st : Step) : Type 0 where
   pub ordered : st .start ≤ st .stop
   pub within : st .stop ≤ length code
 
+-- What a turn at a frame of each kind needs.
 abbrev pub FitAt : Kind → Core → List Step → List ℕ → Place → Step → Type 0
 FitAt Other c table code p st = Unit {0}
 FitAt End c table code p st = Unit {0}
@@ -323,6 +364,7 @@ pub record Sized (c : Core) (table : List Step) (ms : List Mark) : Type 0 where
 abbrev pub Parts : Core → List Entry → Type 0
 Parts c es = (h : ℕ) → h < c .nchannels → Part (getD (c .channels) h nil-port) (c .turns) es
 
+-- What a turn of thread i needs.
 pub record Fit (c : Core) (table : List Step) (code : List ℕ) (ms : List Mark) (es : List Entry) (i : ℕ) : Type 0 where
   pub sized : Sized c table ms
   pub parts : Parts c es

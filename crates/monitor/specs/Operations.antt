@@ -1,4 +1,4 @@
--- An operation of an expression, as the model has it, and what one does.
+-- What one operation of an expression takes, makes and names.
 use Prim.Native.Nat.{ℕ, zero, suc, _+_, _<_}
 use mathlib.Core.List.{List, [], _∷_}
 use lib.IntN.{ℤ, pos}

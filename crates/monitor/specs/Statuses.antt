@@ -25,6 +25,7 @@ use Rattle.monitor.specs.declared.Core.{Core}
 use Rattle.monitor.specs.Table.{nil-mark, step-at-place, bytes-of}
 use Rattle.monitor.specs.Flat.{nil-place, first-mark, level-inside, level-at, value-at}
 
+-- A status as the model has it.
 abbrev pub status-of : Status → ModelStatus
 status-of Ready = ready
 status-of Finished = finished
@@ -41,6 +42,7 @@ module _ (table : List Step) (ms : List Mark) where
   abbrev pub reserved-one : ℕ → ℕ → ℕ
   reserved-one b d = let mk = getD ms (b + d) nil-mark in cond (is-open (level-inside ms b d) && not (is-open (mk .level))) (step-at-place table (mk .opener) .needed) 0
 
+  -- The locks that the first d blocks from b on reserve.
   unfoldable pub reserved-marks : ℕ → ℕ → ℕ
   reserved-marks b zero = 0
   reserved-marks b (suc d) = bitOr (reserved-one b d) (reserved-marks b d)
@@ -55,6 +57,7 @@ module _ (table : List Step) (ms : List Mark) where
   against-first i ps (suc n) = bitOr (against-first i ps n) (held-one i n (getD ps n nil-place))
 
 module _ (k : Levels) (table : List Step) (code : List ℕ) (i : ℕ) where
+  -- The status at an if.
   abbrev pub if-status : Core → List Mark → Place → Step → ModelStatus
   if-status c ms p st =
       let here = level-inside ms (first-mark i) (p .depth) in
@@ -62,11 +65,13 @@ module _ (k : Levels) (table : List Step) (code : List ℕ) (i : ℕ) where
       choose-status (not (st .fixed) && not (is-open l)) ((is-open here && not (is-open l)) && clash (st .needed) (against-first table ms i (c .threads) (c .count)))
 
 module _ (k : Levels) (table : List Step) (code : List ℕ) (ss : List ℤ) (i : ℕ) where
+  -- The status at a with.
   abbrev pub with-status : Core → List Mark → Place → Step → ModelStatus
   with-status c ms p st =
       choose-status (not (is-open (level-at k c (bytes-of code st))))
       (is-open (level-inside ms (first-mark i) (p .depth)) && (is-zero (value-at c ss (bytes-of code st)) || clash (st .mask) (against-first table ms i (c .threads) (c .count))))
 
+  -- The status by the thread's pace and the kind of its next frame.
   abbrev pub status-by : Pace → Kind → Core → List Mark → Place → Step → ModelStatus
   status-by (Idling n) kd c ms p st = ready
   status-by Over kd c ms p st = finished
@@ -83,5 +88,6 @@ module _ (k : Levels) (table : List Step) (code : List ℕ) (ss : List ℤ) (i :
   status-by Running With c ms p st = with-status c ms p st
   status-by Running EndWith c ms p st = ready
 
+  -- The status of thread i.
   abbrev pub status-now : Core → List Mark → ModelStatus
   status-now c ms = let p = getD (c .threads) i nil-place in let st = step-at-place table (p .at) in status-by (p .pace) (st .kind) c ms p st

@@ -21,12 +21,15 @@ use Rattle.monitor.specs.declared.Kind.the-variants.{Other, End, Skip, Assign,
 use Rattle.monitor.specs.declared.Step.{Step}
 use Rattle.monitor.specs.declared.Mark.{Mark}
 
+-- What is read past the table.
 abbrev pub nil-step : Step
 nil-step = record { kind = Other; number = 0; mask = 0; start = 0; stop = 0; other = 0; fixed = false; first = 0; second = 0; needed = 0; assigned = 0 }
 
+-- What is read past the marks.
 abbrev pub nil-mark : Mark
 nil-mark = record { opener = 0; level = 0 }
 
+-- The step at a place.
 abbrev pub step-at-place : List Step → ℕ → Step
 step-at-place table p = getD table p nil-step
 
@@ -34,14 +37,15 @@ step-at-place table p = getD table p nil-step
 abbrev pub has-bit : ℕ → ℕ → Bool
 has-bit m x = eqb (m / 2 ^ x % 2) 1
 
--- The operations of a step's expression.
+-- The bytes of a step's expression.
 abbrev pub bytes-of : List ℕ → Step → List ℕ
 bytes-of code st = take (st .stop - st .start) (drop (st .start) code)
 
--- Operations that are a sound expression.
+-- Bytes that are a sound expression.
 pub record Good (h : Head) (bytes : List ℕ) : Type 0 where
   pub sound : Sound h (decode 0 bytes .ops)
 
+-- The bytes of a step are the expression e, and it is sound.
 pub record Holds (h : Head) (code : List ℕ) (st : Step) (e : Expr) : Type 0 where
   pub ops : decode 0 (bytes-of code st) .ops ≡ e
   pub good : Good h (bytes-of code st)
@@ -76,6 +80,7 @@ pub record Ways (st : Step) (a b : Code) : Type 0 where
   pub needed : st .needed ≡ bitOr (needs a) (needs b)
   pub assigned : (x : ℕ) → x < 64 → has-bit (st .assigned) x ≡ (assigns x a || assigns x b)
 
+-- The table says of every frame what it is, and of every if what its two ways are.
 pub record Tabled (h : Head) (code : List ℕ) (table : List Step) (fs : List Frame) : Type 0 where
   pub here : (p : ℕ) → Reads h code p (step-at-place table p) (drop p fs)
   pub ways : (p : ℕ) (e : Expr) (a b c : Code) (r : List Frame) → drop p fs ≡ flatten (branch e a b c) r → Ways (step-at-place table p) a b

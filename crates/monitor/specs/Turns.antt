@@ -38,6 +38,7 @@ all-first f (suc n) = all-first f n && f n
 abbrev pub Ready-list : Levels → List Step → List ℕ → List ℤ → Core → List Mark → List Bool → ℕ → Type 0
 Ready-list k table code ss c ms ready n = (j : ℕ) → j < n → getD ready j false ≡ is-ready (status-now k table code ss j c ms)
 
+-- The first n threads are finished.
 abbrev pub over-first : Levels → List Step → List ℕ → List ℤ → Core → List Mark → ℕ → Bool
 over-first k table code ss c ms n = all-first (λ j. is-finished (status-now k table code ss j c ms)) n
 

@@ -31,13 +31,14 @@ abbrev pub openers : List Mark → ℕ → ℕ → List ℕ
 openers ms b zero = []
 openers ms b (suc d) = getD ms (b + d) nil-mark .opener ∷ openers ms b d
 
--- Each mark has the place level inside its block.
+-- Each mark has the context level inside its block.
 abbrev pub Leveled : List Mark → ℕ → ℕ → List Open → Type 0
 Leveled ms b zero [] = Unit {0}
 Leveled ms b zero (o ∷ os) = ⊥
 Leveled ms b (suc d) [] = ⊥
 Leveled ms b (suc d) (o ∷ os) = (getD ms (b + d) nil-mark .level ≡ context (o ∷ os)) × Leveled ms b d os
 
+-- A thread runs, idles or is finished as the model has it.
 abbrev pub Paced : Pace → Kind → ModelPace → Type 0
 Paced p kd running = p ≡ pace-at kd
 Paced p kd (idling n) = p ≡ Idling n
@@ -50,6 +51,7 @@ Idles (idling n) (in-branch l w p q r ∷ os) = Unit {0}
 Idles (idling n) (in-loop e b r ∷ os) = ⊥
 Idles (idling n) (in-lock a r ∷ os) = ⊥
 
+-- Where thread i stands, and the places of its openers.
 abbrev pub spot : List Mark → ℕ → Place → Spot
 spot ms i p = record { place = p .at; openers = openers ms (first-mark i) (p .depth) }
 
@@ -63,6 +65,7 @@ pub record ThreadView (h : Head) (fs : List Frame) (table : List Step) (ms : Lis
   pub valid : ValidThread h t
   pub deep : p .depth ≤ 16
 
+-- How many samples or entries a track or a channel may have.
 abbrev pub size-of-port : Port → ℕ
 size-of-port p = p .size
 
@@ -77,6 +80,7 @@ pub record Declares (sc : Script) (c : Core) : Type 0 where
   pub few-tracks : c .ntracks ≤ 8
   pub few-channels : c .nchannels ≤ 8
 
+-- Two parts of the lent memory have no slot in common.
 abbrev pub Apart : Port → Port → Type 0
 Apart p q = (p .start + p .size ≤ q .start) ⊎ (q .start + q .size ≤ p .start)
 

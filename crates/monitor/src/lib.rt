@@ -1,4 +1,4 @@
-// The monitor's turn: a thread's step over a table of steps.
+// The monitor's turns: how each thread stands, what a turn does, and turns on end, over a table of a script's steps.
 ghost use mathlib.Core.Path.{_≡_};
 ghost use mathlib.Core.Bool.{cond, _||_};
 ghost use lib.Dec.{eqb};
@@ -10,6 +10,7 @@ ghost use Rattle.monitor.specs.Flat.{turn-at, track-of, tracks-of, made-at, va
 ghost use mathlib.Core.Option.{some};
 ghost use mathlib.Core.List.{[]};
 ghost use Rattle.script.specs.Code.{Script};
+ghost use Rattle.model.specs.Levels.{is-open as level-open};
 ghost use Rattle.model.specs.Machine.{State, rules, take-turn, choose-status, is-ready as model-ready, is-finished as model-finished};
 ghost use Rattle.monitor.specs.Views.{Runs, Running-mem};
 ghost use Rattle.monitor.specs.Statuses.{status-of, owned-marks, reserved-one, reserved-marks, held-one, against-first, if-status, with-status, status-now};
@@ -25,11 +26,13 @@ use codec::expressions::Op;
 use codec::expressions::Unary;
 use codec::expressions::first_op;
 use lattice::Lattice;
+use lattice::OPEN;
 ghost use Rattle.scheduler.specs.Turns.{answered};
 use scheduler::Scheduler;
 use stack::Stack;
 use std::marker::PhantomData;
 
+// The kinds of frames that a thread may stand at; Other is every frame outside a thread.
 #[derive(Clone, Copy)]
 pub enum Kind {
     Other,
@@ -62,12 +65,14 @@ pub struct Step {
     pub assigned: u64,
 }
 
+// A variable: its value and its level.
 #[derive(Clone, Copy)]
 pub struct Cell {
     pub value: i32,
     pub level: u32,
 }
 
+// A thread runs, idles at the end of a way for so many turns more, or is finished.
 #[derive(Clone, Copy)]
 pub enum Pace {
     Running,
@@ -75,6 +80,7 @@ pub enum Pace {
     Finished,
 }
 
+// Where a thread stands: its next frame, how many blocks it is inside, and its pace.
 #[derive(Clone, Copy)]
 pub struct Place {
     pub at: u16,
@@ -82,6 +88,7 @@ pub struct Place {
     pub pace: Pace,
 }
 
+// Whether a thread may be given a turn.
 #[derive(Clone, Copy)]
 pub enum Status {
     Ready,
@@ -97,13 +104,14 @@ pub struct Survey {
     over: bool,
 }
 
-// An open block: where it began, and the place level inside it.
+// An open block: where it began, and the context level inside it.
 #[derive(Clone, Copy)]
 pub struct Mark {
     pub opener: u16,
     pub level: u32,
 }
 
+// What a put leaves on a channel: a value, or a mark in its place with value 0.
 #[derive(Clone, Copy)]
 pub struct Entry {
     pub turn: u32,
@@ -130,6 +138,7 @@ pub struct Port {
     pub missed: u32,
 }
 
+// A run but for its scheduler.
 #[derive(Drop)]
 pub struct Core {
     pub variables: u8,
@@ -195,10 +204,17 @@ fn context_level(marks: &[Mark], base: usize, depth: u8) -> u32
     ensures { λ r. ⌜ r ≡ level-inside (now (marks .entry)) base depth ⌝ }
 {
     if depth == 0 {
-        0
+        OPEN
     } else {
         innermost(marks, base, depth).level
     }
+}
+
+// Whether a level counts as open. Nothing else compares levels for being equal.
+fn is_open(level: u32) -> bool
+    ensures { λ r. ⌜ r ≡ level-open level ⌝ }
+{
+    level == OPEN
 }
 
 // One block's part of the guard: its level, if it assigns the variable.
@@ -234,6 +250,7 @@ fn guard_of<K: Lattice>(
     all
 }
 
+// A variable whose bit the mask has, its level joined with `level`.
 fn raise_cell<K: Lattice>(cell: Cell, mask: u64, x: u8, level: u32) -> Cell
     requires { ⌜ x < 64 ⌝ }
     ensures { λ r. ⌜ r ≡ raised-cell order mask level x cell ⌝ }
@@ -248,7 +265,7 @@ fn raise_cell<K: Lattice>(cell: Cell, mask: u64, x: u8, level: u32) -> Cell
     }
 }
 
-// The step that opened the innermost of `depth` blocks.
+// The step that opened the innermost of a thread's blocks.
 fn opener(table: &[Step], marks: &[Mark], t: Turn) -> Step
     requires thread { ⌜ t .thread < 8 ⌝ ∗ ⌜ 0 < t .place .depth ⌝ ∗ ⌜ first-mark (t .thread) + t .place .depth ≤ length (now marks) ⌝ }
     requires opener { ⌜ getD (now marks) (first-mark (t .thread) + (t .place .depth - 1)) nil-mark .opener < length (now table) ⌝ }
@@ -257,6 +274,7 @@ fn opener(table: &[Step], marks: &[Mark], t: Turn) -> Step
     table[innermost(marks, t.thread * 16, t.place.depth).opener as usize]
 }
 
+// The locks of the first `depth` blocks from `base` on.
 fn owned(table: &[Step], marks: &[Mark], base: usize, depth: u8) -> u16
     requires room { ⌜ base + depth ≤ length (now marks) ⌝ ∗ ⌜ base ≤ 128 ⌝ }
     requires openers { ⌜ ((d : ℕ) → d < depth → getD (now marks) (base + d) nil-mark .opener < length (now table)) ⌝ }
@@ -269,19 +287,21 @@ fn owned(table: &[Step], marks: &[Mark], base: usize, depth: u8) -> u16
     all
 }
 
+// The locks that the block above d others reserves: those that either way names, if it is the outermost of a level that is not open.
 fn reserved_by(table: &[Step], marks: &[Mark], base: usize, d: u8) -> u16
     requires room { ⌜ base + d < length (now marks) ⌝ ∗ ⌜ base ≤ 128 ⌝ }
     requires opener { ⌜ getD (now marks) (base + d) nil-mark .opener < length (now table) ⌝ }
     ensures { λ r. ⌜ r ≡ reserved-one (now (table .entry)) (now (marks .entry)) base d ⌝ }
 {
     let mark = marks[base + d as usize];
-    if context_level(marks, base, d) == 0 && mark.level != 0 {
+    if is_open(context_level(marks, base, d)) && !is_open(mark.level) {
         table[mark.opener as usize].needed
     } else {
         0
     }
 }
 
+// The locks that the first `depth` blocks from `base` on reserve.
 fn reserved(table: &[Step], marks: &[Mark], base: usize, depth: u8) -> u16
     requires room { ⌜ base + depth ≤ length (now marks) ⌝ ∗ ⌜ base ≤ 128 ⌝ }
     requires openers { ⌜ ((d : ℕ) → d < depth → getD (now marks) (base + d) nil-mark .opener < length (now table)) ⌝ }
@@ -294,6 +314,7 @@ fn reserved(table: &[Step], marks: &[Mark], base: usize, depth: u8) -> u16
     all
 }
 
+// The locks that thread j holds against thread i.
 fn held(table: &[Step], marks: &[Mark], i: u8, j: u8, p: Place) -> u16
     requires room { ⌜ j * 16 + p .depth ≤ length (now marks) ⌝ ∗ ⌜ j < 8 ⌝ }
     requires openers { ⌜ ((d : ℕ) → d < p .depth → getD (now marks) (j * 16 + d) nil-mark .opener < length (now table)) ⌝ }
@@ -308,6 +329,7 @@ fn held(table: &[Step], marks: &[Mark], i: u8, j: u8, p: Place) -> u16
     own | reserved(table, marks, base, p.depth)
 }
 
+// Barred is looked at first, then waiting.
 fn choose_status(barred: bool, waits: bool) -> Status
     ensures { λ r. ⌜ status-of r ≡ choose-status barred waits ⌝ }
 {
@@ -330,12 +352,14 @@ fn expression(code: &[u8], st: Step) -> &[u8]
     &code[start..stop]
 }
 
+// A truth value as a number.
 fn flag_of(b: bool) -> i32
     ensures { λ r. ⌜ r ≡ truth b ⌝ }
 {
     if b { 1 } else { 0 }
 }
 
+// An operation on two numbers, the lower one first.
 fn combine(op: Binary, a: i32, b: i32) -> i32
     ensures { λ r. ⌜ r ≡ apply-binary (binary-of op) a b ⌝ }
 {
@@ -351,6 +375,7 @@ fn combine(op: Binary, a: i32, b: i32) -> i32
     }
 }
 
+// An operation on one number.
 fn alter(op: Unary, a: i32) -> i32
     ensures { λ r. ⌜ r ≡ apply-unary (unary-of op) a ⌝ }
 {
@@ -384,6 +409,7 @@ fn operands(op: Op) -> usize
 }
 
 impl Core {
+    // Thread i comes to a frame.
     fn arrive_at(&mut self, i: usize, table: &[Step], at: u16, depth: u8)
         requires { ⌜ i < 8 ⌝ ∗ ⌜ at < length (now table) ⌝ }
         ensures { λ _. ⌜ now (self .exit) ≡ with-place (now (self .entry)) i (arrived (now (table .entry)) at depth) ⌝ }
@@ -397,7 +423,7 @@ impl Core {
         requires x { ⌜ x < 64 ⌝ }
         ensures { λ r. ⌜ r ≡ guard-threads order (now (table .entry)) (now (marks .entry)) x (now (self .entry) .threads) (now (self .entry) .count) ⌝ }
     {
-        let mut all = 0;
+        let mut all = OPEN;
         for i in 0..self.count {
             all = guard_of::<K>(
                 table,
@@ -504,7 +530,7 @@ impl Core {
         requires good { ⌜ Good (head-of-core (now self)) (now code) ⌝ }
         ensures { λ r. ⌜ r ≡ level-at order (now (self .entry)) (now (code .entry)) ⌝ }
     {
-        let mut all = 0;
+        let mut all = OPEN;
         let mut rest = code;
         while let Some((op, after)) = first_op(rest) {
             all = self.level_one::<K>(op, all);
@@ -513,6 +539,7 @@ impl Core {
         all
     }
 
+    // A skip: one frame on.
     fn skip(&mut self, t: Turn, table: &[Step])
         requires { ⌜ t .thread < 8 ⌝ ∗ ⌜ length (now table) ≤ 512 ⌝ ∗ ⌜ t .place .at + 1 < length (now table) ⌝ }
         ensures { λ _. ⌜ now (self .exit) ≡ skipped (now (table .entry)) (t .thread) (now (self .entry)) (t .place) ⌝ }
@@ -520,6 +547,7 @@ impl Core {
         self.arrive_at(t.thread, table, t.place.at + 1, t.place.depth);
     }
 
+    // An assignment: the value, at its level joined with the guard.
     fn assign<K: Lattice>(
         &mut self,
         t: Turn,
@@ -545,6 +573,7 @@ impl Core {
         self.arrive_at(t.thread, table, t.place.at + 1, t.place.depth);
     }
 
+    // An if: what either way assigns is raised, and one way is taken.
     fn branch<K: Lattice>(
         &mut self,
         t: Turn,
@@ -584,6 +613,7 @@ impl Core {
         );
     }
 
+    // The end of a way with n idle turns left: one fewer, or out of the branch.
     fn close(&mut self, t: Turn, n: u16, table: &[Step])
         requires { ⌜ t .thread < 8 ⌝ ∗ ⌜ t .place .at < 512 ⌝ ∗ ⌜ 0 < t .place .depth ⌝ ∗ ⌜ beyond (t .step .kind) (t .step .other) (t .place .at) < length (now table) ⌝ }
         ensures { λ _. ⌜ now (self .exit) ≡ closing (now (table .entry)) (t .thread) n (now (self .entry)) (t .place) (t .step) ⌝ }
@@ -645,6 +675,7 @@ impl Core {
         }
     }
 
+    // A put: dropped where the context level may not flow to the channel.
     fn put<K: Lattice>(
         &mut self,
         t: Turn,
@@ -690,6 +721,7 @@ impl Core {
         self.arrive_at(t.thread, table, t.place.at + 1, t.place.depth + 1);
     }
 
+    // A while: past its end, or into its body.
     fn repeat(
         &mut self,
         t: Turn,
@@ -725,6 +757,7 @@ impl Core {
         all
     }
 
+    // Whether a thread that stands at an if may be given a turn.
     fn status_if<K: Lattice>(
         &self,
         i: u8,
@@ -740,13 +773,14 @@ impl Core {
     {
         let here = context_level(marks, i as usize * 16, p.depth);
         let level = K::join(here, self.level::<K>(expression(code, st)));
-        let closed = level != 0;
+        let closed = !is_open(level);
         choose_status(
             !st.fixed & closed,
-            (here == 0) & closed & (st.needed & self.against(i, table, marks) != 0),
+            is_open(here) & closed & (st.needed & self.against(i, table, marks) != 0),
         )
     }
 
+    // The same at a with.
     fn status_with<K: Lattice>(
         &self,
         i: u8,
@@ -767,8 +801,8 @@ impl Core {
         let zero = self.value(bytes, samples, work) == 0;
         let here = context_level(marks, i as usize * 16, p.depth);
         choose_status(
-            self.level::<K>(bytes) != 0,
-            (here == 0) & (zero | (st.mask & self.against(i, table, marks) != 0)),
+            !is_open(self.level::<K>(bytes)),
+            is_open(here) & (zero | (st.mask & self.against(i, table, marks) != 0)),
         )
     }
 
@@ -794,7 +828,7 @@ impl Core {
             (Pace::Finished, _) => Status::Finished,
             (Pace::Running, Kind::If) => self.status_if::<K>(i, p, st, table, code, marks),
             (Pace::Running, Kind::While) => choose_status(
-                self.level::<K>(expression(code, st)) != 0,
+                !is_open(self.level::<K>(expression(code, st))),
                 false,
             ),
             (Pace::Running, Kind::With) => self.status_with::<K>(
@@ -955,6 +989,7 @@ impl Core {
     }
 }
 
+// Whether a thread that stands so is ready.
 fn is_ready(status: Status) -> bool
     ensures { λ r. ⌜ r ≡ model-ready (status-of status) ⌝ }
 {
@@ -964,6 +999,7 @@ fn is_ready(status: Status) -> bool
     }
 }
 
+// Whether it is finished.
 fn is_finished(status: Status) -> bool
     ensures { λ r. ⌜ r ≡ model-finished (status-of status) ⌝ }
 {
@@ -973,12 +1009,14 @@ fn is_finished(status: Status) -> bool
     }
 }
 
+// Whether no turn is left to give: every thread is finished, or it was the last that a run may have.
 fn stops(over: bool, turns: u32) -> bool
     ensures { λ r. ⌜ r ≡ (over || eqb turns 1000000) ⌝ }
 {
     over | (turns == 1000000)
 }
 
+// A run of a script: its scheduler and all else.
 #[derive(Drop)]
 pub struct Run<K: Lattice, S: Scheduler> {
     pub kind: PhantomData<K>,
