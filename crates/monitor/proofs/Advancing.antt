@@ -32,7 +32,7 @@ use Rattle.monitor.specs.Views.{Holds-state, Runs, Running-mem}
 use Rattle.monitor.proofs.Threads.{views-later}
 use Rattle.monitor.proofs.Stepping.{with-turns, tick}
 use Rattle.monitor.proofs.Fits.{views-sized, views-fit}
-use Rattle.monitor.proofs.Statuses.{status-is}
+use Rattle.monitor.proofs.Standing.{status-is}
 
 -- A list of answers, one more at a time
 

@@ -32,7 +32,7 @@ use Rattle.monitor.specs.declared.Core.{Core}
 use Rattle.monitor.specs.Table.{nil-mark, step-at-place, Tabled, Holds}
 use Rattle.monitor.specs.Flat.{nil-place, nil-port, first-mark, pace-at, beyond, head-of-core, FitNow, Sound-step, Sized, Part, Fit}
 use Rattle.monitor.specs.Views.{openers, Leveled, ThreadView, Views}
-use Rattle.monitor.proofs.Blocks.{leveled-length}
+use Rattle.monitor.proofs.Marks.{leveled-length}
 use Rattle.monitor.proofs.Guards.{reads}
 use Rattle.monitor.proofs.Stepping.{next-place, beyond-here, opener-loop}
 

@@ -1,5 +1,5 @@
 pub mod Loops
-pub mod Blocks
+pub mod Marks
 pub mod Guards
 pub mod Raising
 pub mod Threads
@@ -7,7 +7,7 @@ pub mod Putting
 pub mod Stepping
 pub mod Fits
 pub mod Turns
-pub mod Statuses
+pub mod Standing
 pub mod Advancing
 pub mod Levels
 pub mod Quotients

@@ -39,7 +39,7 @@ use Rattle.monitor.specs.declared.Core.{Core}
 use Rattle.monitor.specs.Table.{nil-mark, step-at-place, bytes-of, Ways, Tabled}
 use Rattle.monitor.specs.Flat.{nil-place, first-mark, pace-at, arrived, beyond, closing, opener-step, opened, branch-level, level-inside, guard-threads, value-at, level-at, cells-of, tracks-of, channels-of, track-levels-of, cell-of, raised, head-of-core, Track-parts, stepped, after-turn, arrive-in, with-cells, with-channels, nil-port, new-entry, added-port, added-entries, entry-of, channel-of, level-of-port, mem, Mem, state-of}
 use Rattle.monitor.specs.Views.{openers, Leveled, spot, ThreadView, Views, Holds-state, size-of-port}
-use Rattle.monitor.proofs.Blocks.{leveled-length, level-inside-is, openers-push, leveled-push, leveled-pop}
+use Rattle.monitor.proofs.Marks.{leveled-length, level-inside-is, openers-push, leveled-push, leveled-pop}
 use Rattle.monitor.proofs.Guards.{reads, guard-is}
 use Rattle.monitor.proofs.Raising.{cells-set, raised-is, raised-length}
 use Rattle.monitor.proofs.Putting.{channels-added, ports-added}

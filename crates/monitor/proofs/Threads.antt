@@ -22,7 +22,7 @@ use Rattle.monitor.specs.declared.Core.{Core}
 use Rattle.monitor.specs.Table.{nil-mark}
 use Rattle.monitor.specs.Flat.{nil-place, nil-port, first-mark, head-of-core, level-of-port, Part, Parts}
 use Rattle.monitor.specs.Views.{openers, Leveled, spot, ThreadView, size-of-port, Declares, Apart, Views}
-use Rattle.monitor.proofs.Blocks.{Same, openers-same, leveled-same}
+use Rattle.monitor.proofs.Marks.{Same, openers-same, leveled-same}
 
 -- A thread whose marks are as they were.
 pub thread-kept : (h : Head) (fs : List Frame) (table : List Step) (ms ns : List Mark) (j : ℕ) (p : Place) (t : Thread) → Same ms ns (first-mark j) 16 → ThreadView h fs table ms j p t → ThreadView h fs table ns j p t

@@ -3,7 +3,7 @@ use Rattle.std.proofs.shelf.Signed.{wraps}
 use Rattle.model.specs.Values.{apply-binary}
 use Rattle.std.specs.shelf.Signed.{wrapped}
 use Rattle.monitor.proofs.Quotients.{quotient-is}
-use Rattle.monitor.proofs.combine.Needs as need
+use Rattle.monitor.proofs.values.combine.Needs as need
 
 pub returns-in-Sum : need.returns-in-Sum
 unfolding apply-binary

@@ -2,7 +2,7 @@ use mathlib.Core.Path.{sym, ap, _∙_}
 use Prim.Native.Nat.{_+_}
 use Rattle.monitor.specs.Flat.{guard-one}
 use Rattle.monitor.proofs.Loops.{guard-marks-none, guard-marks-more}
-use Rattle.monitor.proofs.guard_of.Needs as need
+use Rattle.monitor.proofs.blocks.guard_of.Needs as need
 
 pub loop-d-holds : need.loop-d-holds
 loop-d-holds g c = sym (guard-marks-none (g .K·Lattice .order) (c .args .table .now) (c .args .marks .now) (c .args .x) (c .args .base) (c .args .from))

@@ -40,7 +40,7 @@ use Rattle.monitor.specs.Table.{nil-mark, step-at-place, bytes-of, Tabled}
 use Rattle.monitor.specs.Flat.{nil-place, first-mark, pace-at, level-inside, head-of-core, state-of}
 use Rattle.monitor.specs.Statuses.{owned-marks, reserved-one, reserved-marks, held-one, against-first, status-by, status-now}
 use Rattle.monitor.specs.Views.{openers, Leveled, ThreadView, Views}
-use Rattle.monitor.proofs.Blocks.{level-inside-is}
+use Rattle.monitor.proofs.Marks.{level-inside-is}
 use Rattle.monitor.proofs.Guards.{reads}
 use Rattle.monitor.proofs.Stepping.{value-is, level-is}
 

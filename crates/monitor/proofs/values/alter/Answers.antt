@@ -2,7 +2,7 @@ use borrow.Author.Needs.{needs}
 use Rattle.std.proofs.shelf.Signed.{wraps}
 use Rattle.model.specs.Values.{apply-unary}
 use Rattle.std.specs.shelf.Signed.{wrapped}
-use Rattle.monitor.proofs.alter.Needs as need
+use Rattle.monitor.proofs.values.alter.Needs as need
 
 pub returns-in-Negated : need.returns-in-Negated
 unfolding apply-unary

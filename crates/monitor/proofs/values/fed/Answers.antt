@@ -1,6 +1,6 @@
 use borrow.Author.Needs.{needs}
 use Rattle.monitor.proofs.Readings.{fed-is, unfed-is}
-use Rattle.monitor.proofs.fed.Needs as need
+use Rattle.monitor.proofs.values.fed.Needs as need
 
 pub returns-then-n-port : need.returns-then-n-port
 returns-then-n-port c = search (needs, fed-is)
