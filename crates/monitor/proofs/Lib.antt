@@ -1,0 +1,15 @@
+pub mod Loops
+pub mod Marks
+pub mod Guards
+pub mod Raising
+pub mod Threads
+pub mod Putting
+pub mod Stepping
+pub mod Fits
+pub mod Turns
+pub mod Standing
+pub mod Advancing
+pub mod Levels
+pub mod Quotients
+pub mod Stacks
+pub mod Readings
