@@ -3,8 +3,8 @@ use Prim.Native.Nat.{ℕ, zero, suc, _+_, _-_, _<_, _≤_}
 use native.Mathlib.Numerals.{add-one}
 use native.Mathlib.Omega.{arith}
 use mathlib.Core.Path.{_≡_, refl, sym, ap, subst, _∙_}
-use mathlib.Core.Logic.{_⊎_, _≢_, ⊎-elim}
-use mathlib.Core.Option.{Option as Perhaps, none, some}
+use mathlib.Core.Logic.{_≢_, ⊎-elim}
+use mathlib.Core.Option.{Option as Perhaps}
 use mathlib.Core.Bool.{Bool, true, false, cond, _&&_, _||_}
 use mathlib.Core.List.{List, [], _∷_}
 use lib.Dec.{T, eqb}
@@ -16,19 +16,19 @@ use Rattle.std.proofs.shelf.Tests.{cases-eq, cases-lt}
 use borrow.Author.Tests.{eqb-false}
 use Rattle.lattice.specs.Levels.{Levels}
 use Rattle.script.specs.Code.{Script}
-use Rattle.model.specs.Machine.{State, Status, status, is-ready, is-finished, each-from, all-true, rules, ready-set, all-finished, take-turn, one-more, advance}
+use Rattle.model.specs.Machine.{State, status, is-ready, is-finished, each-from, all-true, rules, ready-set, all-finished, take-turn, advance}
 use Rattle.model.specs.Threads.{Thread}
 use Rattle.scheduler.specs.Turns.{Meaning, Obedient, answered}
 use Rattle.monitor.specs.declared.Step.{Step}
 use Rattle.monitor.specs.declared.Mark.{Mark}
 use Rattle.monitor.specs.declared.Entry.{Entry}
 use Rattle.monitor.specs.declared.Core.{Core}
-use Rattle.monitor.specs.Flat.{mem, Mem, state-of}
+use Rattle.monitor.specs.Flat.{mem, Mem}
 use Rattle.monitor.specs.Statuses.{status-now}
 use Rattle.std.specs.declared.option.Option.{Option}
 use Rattle.std.specs.declared.option.Option.the-variants.{Some, None}
 use Rattle.monitor.specs.Turns.{Within, All-fit, all-first, Ready-list, over-first, Turned, Advanced}
-use Rattle.monitor.specs.Views.{Holds-state, Runs, Running-mem}
+use Rattle.monitor.specs.Views.{Runs, Running-mem}
 use Rattle.monitor.proofs.Threads.{views-later}
 use Rattle.monitor.proofs.Stepping.{with-turns, tick}
 use Rattle.monitor.proofs.Fits.{views-sized, views-fit}

@@ -1,9 +1,9 @@
 -- Memory that stands for a state is such that a turn is safe.
-use Prim.Native.Nat.{ℕ, zero, suc, _+_, _-_, _*_, _<_, _≤_}
+use Prim.Native.Nat.{ℕ, zero, suc, _+_, _<_, _≤_}
 use native.Mathlib.Omega.{arith}
 use mathlib.Core.Path.{_≡_, refl, sym, ap, subst, _∙_}
-use mathlib.Core.Logic.{_⊎_, ⊎-elim}
-use mathlib.Core.Bool.{Bool, true, false}
+use mathlib.Core.Logic.{⊎-elim}
+use mathlib.Core.Bool.{true, false}
 use mathlib.Core.List.{List, [], _∷_}
 use lib.Dec.{T, ltb, ltb→lt}
 use lib.ListN.{length, getD, drop}
@@ -11,30 +11,28 @@ use Rattle.std.proofs.shelf.Tests.{cases-eq}
 use Rattle.script.specs.Code.{Code, Script}
 use Rattle.codec.specs.Expressions.{Expr}
 use Rattle.script.specs.Code.Code.{done, skip, assign, put, branch, loop, lock}
-use Rattle.model.specs.Threads.{Open, Thread, ended, at-code, Pace as ModelPace}
+use Rattle.model.specs.Threads.{Open, Thread, ended, Pace as ModelPace}
 use Rattle.model.specs.Threads.Open.{in-branch, in-loop, in-lock}
 use Rattle.model.specs.Threads.Pace.{running, idling}
-use Rattle.codec.specs.Frames.{Head, Frame}
+use Rattle.codec.specs.Frames.{Frame}
 use Rattle.codec.specs.Frames.Frame.{thread-end, if, else, end-if, while, end-while, with, end-with}
 use Rattle.script.specs.Trees.{flatten, script-frames}
 use Rattle.model.specs.Places.{Opened, flatten-inside}
 use Rattle.model.proofs.Places.Skipping.{frame-here, past-lands}
 use Rattle.monitor.specs.declared.Kind.{Kind}
-use Rattle.monitor.specs.declared.Kind.the-variants.{Other, End, Skip, Assign, Put, If, Else, EndIf, While, EndWhile, With, EndWith}
+use Rattle.monitor.specs.declared.Kind.the-variants.{End, Skip, Assign, Put, If, Else, EndIf, While, EndWhile, With, EndWith}
 use Rattle.monitor.specs.declared.Step.{Step}
 use Rattle.monitor.specs.declared.Mark.{Mark}
 use Rattle.monitor.specs.declared.Pace.{Pace}
-use Rattle.monitor.specs.declared.Pace.the-variants.{Running, Idling, Finished}
 use Rattle.monitor.specs.declared.Place.{Place}
-use Rattle.monitor.specs.declared.Port.{Port}
 use Rattle.monitor.specs.declared.Entry.{Entry}
 use Rattle.monitor.specs.declared.Core.{Core}
-use Rattle.monitor.specs.Table.{nil-mark, step-at-place, Tabled, Holds}
-use Rattle.monitor.specs.Flat.{nil-place, nil-port, first-mark, pace-at, beyond, head-of-core, FitNow, Sound-step, Sized, Part, Fit}
+use Rattle.monitor.specs.Table.{nil-mark, step-at-place, Holds}
+use Rattle.monitor.specs.Flat.{nil-place, first-mark, pace-at, head-of-core, FitNow, Sound-step, Sized, Fit}
 use Rattle.monitor.specs.Views.{openers, Leveled, ThreadView, Views}
 use Rattle.monitor.proofs.Marks.{leveled-length}
 use Rattle.monitor.proofs.Guards.{reads}
-use Rattle.monitor.proofs.Stepping.{next-place, beyond-here, opener-loop}
+use Rattle.monitor.proofs.Stepping.{next-place, beyond-here}
 
 -- There is always a frame where a thread stands.
 record Begins (fs : List Frame) : Type 0 where

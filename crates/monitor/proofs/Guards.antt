@@ -1,27 +1,23 @@
 -- The guard that is worked out from marks is the model's.
-use Prim.Native.Nat.{ℕ, zero, suc, _+_, _-_, _*_, _/_, _%_, _^_, _<_, _≤_}
+use Prim.Native.Nat.{ℕ, zero, suc, _+_, _%_, _^_, _<_, _≤_}
 use native.Mathlib.Nat.{zero-div}
 use native.Mathlib.Omega.{arith}
 use mathlib.Core.Path.{_≡_, refl, sym, ap, subst, _∙_}
-use mathlib.Core.Bool.{Bool, true, false, cond, _||_}
+use mathlib.Core.Bool.{Bool, false, cond}
 use mathlib.Core.List.{List, [], _∷_, _++_}
 use lib.Dec.{eqb}
 use lib.ListN.{length, getD, take, drop}
 use lib.Seq.{take-suc, take-all}
 use Rattle.lattice.specs.Levels.{Levels}
-use Rattle.script.specs.Code.{Code, Script}
-use Rattle.codec.specs.Expressions.{Expr}
-use Rattle.model.specs.Stretches.{assigns}
-use Rattle.model.specs.Threads.{Open, Thread, ended, context, guard-of, guard}
+use Rattle.model.specs.Threads.{Open, Thread, ended, guard-of, guard}
 use Rattle.model.specs.Threads.Open.{in-branch, in-loop, in-lock}
 use Rattle.codec.specs.Frames.{Head, Frame}
-use Rattle.script.specs.Trees.{flatten}
 use Rattle.model.specs.Places.{Opened}
 use Rattle.monitor.specs.declared.Step.{Step}
 use Rattle.monitor.specs.declared.Mark.{Mark}
 use Rattle.monitor.specs.declared.Place.{Place}
 use Rattle.monitor.specs.Table.{nil-mark, step-at-place, has-bit, Reads, Tabled}
-use Rattle.monitor.specs.Flat.{guard-one, guard-marks, guard-threads, first-mark, nil-place}
+use Rattle.monitor.specs.Flat.{guard-marks, guard-threads, first-mark, nil-place}
 use Rattle.monitor.specs.Views.{openers, Leveled, ThreadView}
 
 pub no-bit : (x : ℕ) → has-bit 0 x ≡ false

@@ -1,14 +1,14 @@
 -- The level of an expression, an operation at a time.
-use Prim.Native.Nat.{ℕ, _+_, _<_, _≤_}
+use Prim.Native.Nat.{ℕ, _<_}
 use native.Mathlib.Omega.{arith}
-use mathlib.Core.Path.{_≡_, refl, sym, ap, subst, _∙_}
+use mathlib.Core.Path.{_≡_, refl, sym, ap, _∙_}
 use mathlib.Core.Bool.{Bool, true, false, _&&_}
 use mathlib.Core.List.{List, [], _∷_}
 use lib.Dec.{T, ltb, ltb→lt}
-use lib.ListN.{length, getD, take, drop, List·getD-map}
+use lib.ListN.{length, getD, take, List·getD-map}
 use lib.Seq.{getD-take}
 use Rattle.lattice.specs.Levels.{Levels}
-use Rattle.model.specs.Values.{joined, blank}
+use Rattle.model.specs.Values.{joined}
 use Rattle.codec.specs.Frames.{Head}
 use Rattle.codec.specs.Sound.{declared}
 use Rattle.codec.specs.declared.expressions.Op.{Op}

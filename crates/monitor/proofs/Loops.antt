@@ -1,8 +1,7 @@
 -- The loops of the guard and of raising, a turn at a time.
-use Prim.Native.Nat.{ℕ, suc, _+_, _*_}
+use Prim.Native.Nat.{ℕ, _+_}
 use native.Mathlib.Numerals.{add-one}
 use mathlib.Core.Path.{_≡_, refl, sym, ap, _∙_}
-use mathlib.Core.Bool.{Bool, true, false, cond}
 use mathlib.Core.List.{List}
 use lib.ListN.{getD, set}
 use Rattle.lattice.specs.Levels.{Levels}
@@ -11,7 +10,7 @@ use Rattle.monitor.specs.declared.Mark.{Mark}
 use Rattle.monitor.specs.declared.Cell.{Cell}
 use Rattle.monitor.specs.declared.Place.{Place}
 use Rattle.monitor.specs.declared.Core.{Core}
-use Rattle.monitor.specs.Table.{nil-mark, step-at-place, has-bit}
+use Rattle.monitor.specs.Table.{nil-mark, step-at-place}
 use lib.Bits.{bitOr}
 use Rattle.monitor.specs.Statuses.{owned-marks, reserved-one, reserved-marks, held-one, against-first}
 use Rattle.monitor.specs.Flat.{guard-one, guard-marks, guard-threads, first-mark, nil-place, nil-cell, raised, raised-cell, with-cells}

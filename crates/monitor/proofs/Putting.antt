@@ -1,5 +1,5 @@
 -- A put: one channel's entries, and the others as they were.
-use Prim.Native.Nat.{ℕ, zero, suc, _+_, _-_, _*_, _<_, _≤_}
+use Prim.Native.Nat.{ℕ, zero, suc, _+_, _-_, _<_, _≤_}
 use native.Mathlib.Numerals.{add-one}
 use native.Mathlib.Omega.{arith}
 use mathlib.Core.Path.{_≡_, refl, sym, ap, subst, _∙_}
@@ -7,10 +7,10 @@ use mathlib.Core.Logic.{_⊎_, _≢_, inl, inr, ⊎-elim}
 use mathlib.Core.Bool.{Bool, true, false, cond}
 use mathlib.Core.List.{List, [], _∷_, _++_, map}
 use lib.Dec.{ltb}
-use borrow.Author.Tests.{ltb-true, ltb-false}
+use borrow.Author.Tests.{ltb-true}
 use lib.ListN.{length, getD, take, drop, set, length-set, length-drop, length-take}
 use lib.Seq.{getD-set-same, getD-set-other, map-set, set-getD, getD-take}
-use Rattle.std.proofs.shelf.Lists.{map-push, length-map, drop-set-add, drop-set-lt, take-more-set, take-set-le, getD-map}
+use Rattle.std.proofs.shelf.Lists.{map-push, length-map, drop-set-add, drop-set-lt, take-more-set, take-set-le}
 use Rattle.std.proofs.shelf.Tests.{cases-eq}
 use Rattle.model.specs.Machine.{add-entry, Channel as ModelChannel, Entry as ModelEntry}
 use Rattle.monitor.specs.declared.Port.{Port}

@@ -2,16 +2,15 @@
 use Prim.Native.Nat.{ℕ, zero, suc, _+_, _-_, _≤_, _<_}
 use native.Mathlib.Omega.{arith}
 use mathlib.Core.Path.{_≡_, refl, sym, ap, subst, _∙_}
-use mathlib.Core.Bool.{Bool, true, false, _&&_}
 use mathlib.Core.List.{List, [], _∷_}
 use mathlib.Core.Logic.{_≢_}
-use lib.Dec.{T, eqb, leb, ltb, ltb→lt, leb→le, eqb→eq}
+use lib.Dec.{T, leb, ltb, ltb→lt, leb→le, eqb→eq}
 use lib.IntN.{ℤ, pos}
 use lib.ListN.{length, getD, set}
 use lib.Seq.{getD-set-same, getD-set-other}
 use Rattle.codec.specs.Expressions.{Expr}
 use Rattle.codec.specs.Operations.{op-of, binary-of, unary-of}
-use Rattle.codec.specs.Sound.{has-room, depth-after, leaves-one}
+use Rattle.codec.specs.Sound.{leaves-one}
 use Rattle.codec.specs.declared.expressions.Op.{Op}
 use Rattle.codec.specs.declared.expressions.Op.the-variants.{Constant, Variable, Sample, Held, Two, One}
 use Rattle.model.specs.Values.{Cell, blank, sample-at, top, eval, apply-binary, apply-unary}

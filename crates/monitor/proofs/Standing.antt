@@ -1,44 +1,41 @@
 -- The status that is worked out from places and marks is the model's.
-use Prim.Native.Nat.{ℕ, zero, suc, _+_, _-_, _*_, _<_, _≤_}
+use Prim.Native.Nat.{ℕ, zero, suc, _<_, _≤_}
 use native.Mathlib.Omega.{arith}
-use mathlib.Core.Path.{_≡_, refl, sym, ap, subst, _∙_}
-use mathlib.Core.Logic.{_⊎_, _≢_, ⊎-elim}
+use mathlib.Core.Path.{_≡_, refl, sym, ap, _∙_}
+use mathlib.Core.Logic.{_≢_, ⊎-elim}
 use mathlib.Core.Bool.{Bool, true, false, cond, not, _&&_, _||_}
 use mathlib.Core.List.{List, [], _∷_, _++_}
 use lib.Dec.{eqb}
 use lib.IntN.{ℤ}
 use lib.Bits.{bitOr, or-comm, or-zero-l}
-use lib.ListN.{length, getD, take, drop, length-take}
+use lib.ListN.{length, getD, take, length-take}
 use lib.Seq.{take-suc, take-all}
 use borrow.Author.Tests.{eq-eqb, ne-eqb}
 use Rattle.std.proofs.shelf.Tests.{cases-eq}
 use Rattle.lattice.specs.Levels.{Levels}
 use Rattle.model.specs.Levels.{is-open}
 use Rattle.script.specs.Code.{Code, Script}
-use Rattle.codec.specs.Expressions.{Expr}
-use Rattle.model.specs.Stretches.{fixed-time, needs}
 use Rattle.script.specs.Code.Code.{done, skip, assign, put, branch, loop, lock}
-use Rattle.model.specs.Threads.{Open, Thread, ended, context, owned, reserved, held-by, against, clash, at-code, Pace as ModelPace}
-use Rattle.model.specs.Machine.{State, choose-status, status-at, status, level-of, value-of, Status as ModelStatus}
+use Rattle.model.specs.Threads.{Open, Thread, ended, owned, reserved, held-by, against, clash, Pace as ModelPace}
+use Rattle.model.specs.Machine.{State, choose-status, status-at, status, Status as ModelStatus}
 use Rattle.model.specs.Values.{is-zero}
 use Rattle.model.specs.Threads.Open.{in-branch, in-loop, in-lock}
 use Rattle.model.specs.Threads.Pace.{running, idling}
 use Rattle.codec.specs.Frames.{Head, Frame}
-use Rattle.script.specs.Trees.{flatten, script-frames}
+use Rattle.script.specs.Trees.{script-frames}
 use Rattle.model.specs.Places.{Opened}
 use Rattle.lattice.proofs.Ors.{or-assoc}
 use Rattle.monitor.specs.declared.Kind.{Kind}
-use Rattle.monitor.specs.declared.Kind.the-variants.{Other, End, Skip, Assign, Put, If, Else, EndIf, While, EndWhile, With, EndWith}
+use Rattle.monitor.specs.declared.Kind.the-variants.{End, Skip, Assign, Put, If, Else, EndIf, While, EndWhile, With, EndWith}
 use Rattle.monitor.specs.declared.Step.{Step}
 use Rattle.monitor.specs.declared.Mark.{Mark}
 use Rattle.monitor.specs.declared.Pace.{Pace}
-use Rattle.monitor.specs.declared.Pace.the-variants.{Running, Idling, Finished}
 use Rattle.monitor.specs.declared.Place.{Place}
 use Rattle.monitor.specs.declared.Entry.{Entry}
 use Rattle.monitor.specs.declared.Core.{Core}
-use Rattle.monitor.specs.Table.{nil-mark, step-at-place, bytes-of, Tabled}
-use Rattle.monitor.specs.Flat.{nil-place, first-mark, pace-at, level-inside, head-of-core, state-of}
-use Rattle.monitor.specs.Statuses.{owned-marks, reserved-one, reserved-marks, held-one, against-first, status-by, status-now}
+use Rattle.monitor.specs.Table.{step-at-place, Tabled}
+use Rattle.monitor.specs.Flat.{nil-place, first-mark, pace-at, head-of-core, state-of}
+use Rattle.monitor.specs.Statuses.{owned-marks, reserved-marks, against-first, status-by, status-now}
 use Rattle.monitor.specs.Views.{openers, Leveled, ThreadView, Views}
 use Rattle.monitor.proofs.Marks.{level-inside-is}
 use Rattle.monitor.proofs.Guards.{reads}

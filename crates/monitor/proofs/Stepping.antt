@@ -1,6 +1,6 @@
 -- One turn of a thread: what memory stands for moves as the model does.
 use Rattle.codec.specs.Expressions.{decode}
-use Prim.Native.Nat.{ℕ, zero, suc, _+_, _-_, _*_, _<_, _≤_}
+use Prim.Native.Nat.{ℕ, zero, suc, _+_, _-_, _<_, _≤_}
 use native.Mathlib.Numerals.{add-one}
 use native.Mathlib.Omega.{arith}
 use mathlib.Core.Path.{_≡_, refl, sym, ap, subst, _∙_}
@@ -16,28 +16,28 @@ use Rattle.codec.specs.Expressions.{Expr}
 use Rattle.model.specs.Stretches.{assigns}
 use Rattle.script.specs.Code.Code.{done, skip, assign, put, branch, loop, lock}
 use Rattle.model.specs.Threads.{Open, Thread, ended, context, guard, at-code, at-idle, Pace as ModelPace}
-use Rattle.model.specs.Machine.{State, raise, step-at, step, one-more, close-branch, lag, set-thread, set-cells, set-cell, value-of, level-of, do-put, set-channel, add-entry, unused, Channel as ModelChannel}
+use Rattle.model.specs.Machine.{State, raise, step-at, step, one-more, close-branch, lag, set-thread, set-cells, value-of, level-of, do-put, set-channel, add-entry, unused, Channel as ModelChannel}
 use Rattle.model.specs.Values.{is-zero, eval, top, joined, blank, Cell as ModelCell}
 use Rattle.model.specs.Threads.Open.{in-branch, in-loop, in-lock}
 use Rattle.model.specs.Threads.Pace.{running, idling}
-use Rattle.codec.specs.Frames.{Head, Frame}
-use Rattle.codec.specs.Frames.Frame.{thread-end, if, else, end-if, while, end-while, with, end-with}
+use Rattle.codec.specs.Frames.{Frame}
+use Rattle.codec.specs.Frames.Frame.{if, else, end-if, while, end-while}
 use Rattle.script.specs.Trees.{flatten, script-frames, Valid}
-use Rattle.model.specs.Places.{Spot, Stands, StandsAt, Opened, flatten-inside, ValidInside, past}
+use Rattle.model.specs.Places.{Stands, Opened, flatten-inside, ValidInside}
 use Rattle.model.proofs.Places.Skipping.{drop-next, past-lands}
 use Rattle.monitor.specs.declared.Kind.{Kind}
-use Rattle.monitor.specs.declared.Kind.the-variants.{Other, End, Skip, Assign, Put, If, Else, EndIf, While, EndWhile, With, EndWith}
+use Rattle.monitor.specs.declared.Kind.the-variants.{End, Skip, Assign, Put, If, Else, EndIf, While, EndWhile, With, EndWith}
 use Rattle.monitor.specs.declared.Step.{Step}
 use Rattle.monitor.specs.declared.Mark.{Mark}
 use Rattle.monitor.specs.declared.Cell.{Cell}
 use Rattle.monitor.specs.declared.Pace.{Pace}
-use Rattle.monitor.specs.declared.Pace.the-variants.{Running, Idling, Finished}
+use Rattle.monitor.specs.declared.Pace.the-variants.{Idling}
 use Rattle.monitor.specs.declared.Place.{Place}
 use Rattle.monitor.specs.declared.Entry.{Entry}
 use Rattle.monitor.specs.declared.Port.{Port}
 use Rattle.monitor.specs.declared.Core.{Core}
-use Rattle.monitor.specs.Table.{nil-mark, step-at-place, bytes-of, Ways, Tabled}
-use Rattle.monitor.specs.Flat.{nil-place, first-mark, pace-at, arrived, beyond, closing, opener-step, opened, branch-level, level-inside, guard-threads, value-at, level-at, cells-of, tracks-of, channels-of, track-levels-of, cell-of, raised, head-of-core, Track-parts, stepped, after-turn, arrive-in, with-cells, with-channels, nil-port, new-entry, added-port, added-entries, entry-of, channel-of, level-of-port, mem, Mem, state-of}
+use Rattle.monitor.specs.Table.{nil-mark, step-at-place, bytes-of, Ways}
+use Rattle.monitor.specs.Flat.{nil-place, first-mark, pace-at, arrived, beyond, closing, opener-step, opened, branch-level, level-inside, guard-threads, value-at, level-at, cells-of, tracks-of, channels-of, cell-of, raised, head-of-core, Track-parts, stepped, after-turn, arrive-in, with-cells, with-channels, nil-port, added-port, added-entries, entry-of, channel-of, level-of-port, mem, state-of}
 use Rattle.monitor.specs.Views.{openers, Leveled, spot, ThreadView, Views, Holds-state, size-of-port}
 use Rattle.monitor.proofs.Marks.{leveled-length, level-inside-is, openers-push, leveled-push, leveled-pop}
 use Rattle.monitor.proofs.Guards.{reads, guard-is}

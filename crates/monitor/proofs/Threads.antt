@@ -1,17 +1,17 @@
 -- One thread moved: memory still stands for the state.
-use Prim.Native.Nat.{ℕ, zero, suc, _+_, _-_, _*_, _<_, _≤_}
+use Prim.Native.Nat.{ℕ, suc, _+_, _*_, _<_}
 use native.Mathlib.Omega.{arith}
-use mathlib.Core.Path.{_≡_, refl, sym, ap, subst, _∙_}
-use mathlib.Core.Logic.{_⊎_, _≢_, ⊎-elim}
-use mathlib.Core.List.{List, [], _∷_, map}
+use mathlib.Core.Path.{_≡_, refl, sym, subst, _∙_}
+use mathlib.Core.Logic.{_≢_, ⊎-elim}
+use mathlib.Core.List.{List, map}
 use lib.ListN.{length, getD, take, set, length-set}
 use lib.Seq.{getD-set-same, getD-set-other}
 use Rattle.std.proofs.shelf.Tests.{cases-eq}
-use Rattle.model.specs.Threads.{Open, Thread, ended}
+use Rattle.model.specs.Threads.{Thread, ended}
 use Rattle.script.specs.Code.{Script}
 use Rattle.codec.specs.Frames.{Head, Frame}
 use Rattle.script.specs.Trees.{script-frames}
-use Rattle.model.specs.Places.{Spot, Stands, StandsAt, Opened}
+use Rattle.model.specs.Places.{StandsAt}
 use Rattle.monitor.specs.declared.Step.{Step}
 use Rattle.monitor.specs.declared.Mark.{Mark}
 use Rattle.monitor.specs.declared.Cell.{Cell}
@@ -20,8 +20,8 @@ use Rattle.monitor.specs.declared.Place.{Place}
 use Rattle.monitor.specs.declared.Entry.{Entry}
 use Rattle.monitor.specs.declared.Core.{Core}
 use Rattle.monitor.specs.Table.{nil-mark}
-use Rattle.monitor.specs.Flat.{nil-place, nil-port, first-mark, head-of-core, level-of-port, Part, Parts}
-use Rattle.monitor.specs.Views.{openers, Leveled, spot, ThreadView, size-of-port, Declares, Apart, Views}
+use Rattle.monitor.specs.Flat.{nil-place, nil-port, first-mark, head-of-core, level-of-port, Part}
+use Rattle.monitor.specs.Views.{openers, ThreadView, size-of-port, Apart, Views}
 use Rattle.monitor.proofs.Marks.{Same, openers-same, leveled-same}
 
 -- A thread whose marks are as they were.

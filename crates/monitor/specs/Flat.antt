@@ -4,16 +4,12 @@ use Rattle.codec.specs.Expressions.{decode}
 use Rattle.codec.specs.Operations.{op-of}
 use Rattle.monitor.specs.Operations.{made}
 use Prim.Native.Nat.{ℕ, zero, suc, _+_, _-_, _*_, _<_, _≤_}
-use mathlib.Core.Path.{_≡_}
-use mathlib.Core.Bool.{Bool, true, false, _&&_, not, cond}
-use mathlib.Core.List.{List, [], _∷_, map}
-use lib.Dec.{T, eqb, ltb}
+use mathlib.Core.Bool.{Bool, not, cond}
+use mathlib.Core.List.{List, [], map}
+use lib.Dec.{eqb, ltb}
 use lib.IntN.{ℤ, pos}
 use lib.ListN.{length, getD, take, drop, set}
-use lib.Bits.{bitOr}
 use Rattle.lattice.specs.Levels.{Levels}
-use Rattle.model.specs.Levels.{is-open}
-use Rattle.codec.specs.Expressions.{Expr}
 use Rattle.model.specs.Values.{blank, eval, top, joined, is-zero, Cell as ModelCell}
 use Rattle.model.specs.Threads.{Thread}
 use Rattle.model.specs.Machine.{Channel, State, Entry as ModelEntry}

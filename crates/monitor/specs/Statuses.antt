@@ -1,14 +1,14 @@
 -- What a thread's status is by its place and marks.
-use Prim.Native.Nat.{ℕ, zero, suc, _+_, _-_, _*_}
-use mathlib.Core.Bool.{Bool, true, false, _&&_, _||_, not, cond}
-use mathlib.Core.List.{List, [], _∷_}
+use Prim.Native.Nat.{ℕ, zero, suc, _+_}
+use mathlib.Core.Bool.{false, _&&_, _||_, not, cond}
+use mathlib.Core.List.{List}
 use lib.Dec.{eqb}
 use lib.IntN.{ℤ}
 use lib.ListN.{getD}
 use lib.Bits.{bitOr}
 use Rattle.lattice.specs.Levels.{Levels}
 use Rattle.model.specs.Levels.{is-open}
-use Rattle.model.specs.Machine.{choose-status, is-ready, is-finished, Status as ModelStatus}
+use Rattle.model.specs.Machine.{choose-status, Status as ModelStatus}
 use Rattle.model.specs.Threads.{clash}
 use Rattle.model.specs.Values.{is-zero}
 use Rattle.model.specs.Machine.Status.{ready, finished, waiting, barred}

@@ -1,10 +1,10 @@
 -- A script as a table of steps, one for each frame.
 use Rattle.codec.specs.Expressions.{decode}
-use Prim.Native.Nat.{ℕ, zero, suc, _+_, _-_, _*_, _/_, _%_, _^_, _<_, _≤_}
+use Prim.Native.Nat.{ℕ, _-_, _/_, _%_, _^_, _<_, _≤_}
 use mathlib.Core.Path.{_≡_}
 use mathlib.Core.Bool.{Bool, true, false, _&&_, _||_}
-use mathlib.Core.List.{List, [], _∷_, map}
-use lib.Dec.{T, eqb}
+use mathlib.Core.List.{List, [], _∷_}
+use lib.Dec.{eqb}
 use lib.ListN.{length, getD, take, drop}
 use lib.Bits.{bitOr}
 use Rattle.codec.specs.Expressions.{Expr}
@@ -16,7 +16,6 @@ use Rattle.codec.specs.Frames.{Head, Frame}
 use Rattle.codec.specs.Frames.Frame.{header, track, channel, thread, thread-end, if, else, end-if, while, end-while, with, end-with, last}
 use Rattle.script.specs.Trees.{flatten, Sound}
 use Rattle.model.specs.Places.{past}
-use Rattle.monitor.specs.declared.Kind.{Kind}
 use Rattle.monitor.specs.declared.Kind.the-variants.{Other, End, Skip, Assign, Put, If, Else, EndIf, While, EndWhile, With, EndWith}
 use Rattle.monitor.specs.declared.Step.{Step}
 use Rattle.monitor.specs.declared.Mark.{Mark}

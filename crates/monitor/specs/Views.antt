@@ -1,14 +1,13 @@
 -- When memory stands for a state of the model.
-use Prim.Native.Nat.{ℕ, zero, suc, _+_, _-_, _*_, _<_, _≤_}
+use Prim.Native.Nat.{ℕ, zero, suc, _+_, _<_, _≤_}
 use mathlib.Core.Path.{_≡_}
 use mathlib.Core.Logic.{_⊎_, _≢_}
 use mathlib.Core.List.{List, [], _∷_, map}
 use lib.IntN.{ℤ}
 use lib.ListN.{length, getD, take}
-use Rattle.lattice.specs.Levels.{Levels}
 use Rattle.model.specs.Threads.{Open, Thread, ended, context, Pace as ModelPace}
 use Rattle.script.specs.Code.{Script}
-use Rattle.model.specs.Machine.{State, step}
+use Rattle.model.specs.Machine.{State}
 use Rattle.model.specs.Threads.Pace.{running, idling}
 use Rattle.model.specs.Threads.Open.{in-branch, in-loop, in-lock}
 use Rattle.codec.specs.Frames.{Head, Frame}
@@ -18,7 +17,7 @@ use Rattle.monitor.specs.declared.Kind.{Kind}
 use Rattle.monitor.specs.declared.Step.{Step}
 use Rattle.monitor.specs.declared.Mark.{Mark}
 use Rattle.monitor.specs.declared.Pace.{Pace}
-use Rattle.monitor.specs.declared.Pace.the-variants.{Running, Idling, Finished}
+use Rattle.monitor.specs.declared.Pace.the-variants.{Idling}
 use Rattle.monitor.specs.declared.Place.{Place}
 use Rattle.monitor.specs.declared.Port.{Port}
 use Rattle.monitor.specs.declared.Entry.{Entry}

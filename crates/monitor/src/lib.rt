@@ -11,7 +11,7 @@ ghost use Rattle.monitor.specs.Views.{Runs, Running-mem};
 ghost use Rattle.monitor.specs.Turns.{Ready-list, Turned, Advanced};
 
 mod blocks;
-pub mod stack;
+mod stack;
 mod statuses;
 mod steps;
 mod values;
@@ -22,7 +22,7 @@ use std::marker::PhantomData;
 
 // The kinds of frames that a thread may stand at; Other is every frame outside a thread.
 #[derive(Clone, Copy)]
-pub enum Kind {
+pub(crate) enum Kind {
     Other,
     End,
     Skip,
@@ -41,7 +41,7 @@ pub enum Kind {
 // the else or the end of its block; masks and levels are 0 where the kind has none. For an if: whether both ways take a fixed
 // time, the idle turns at the end of the first and of the second, the locks that either names, and the variables that either assigns.
 #[derive(Clone, Copy)]
-pub struct Step {
+pub(crate) struct Step {
     pub kind: Kind,
     pub number: u8,
     pub mask: u16,
@@ -57,14 +57,14 @@ pub struct Step {
 
 // A variable: its value and its level.
 #[derive(Clone, Copy)]
-pub struct Cell {
+pub(crate) struct Cell {
     pub value: i32,
     pub level: u32,
 }
 
 // A thread runs, idles at the end of a way for so many turns more, or is finished.
 #[derive(Clone, Copy)]
-pub enum Pace {
+pub(crate) enum Pace {
     Running,
     Idling(u16),
     Finished,
@@ -72,7 +72,7 @@ pub enum Pace {
 
 // Where a thread stands: its next frame, how many blocks it is inside, and its pace.
 #[derive(Clone, Copy)]
-pub struct Place {
+pub(crate) struct Place {
     pub at: u16,
     pub depth: u8,
     pub pace: Pace,
@@ -80,7 +80,7 @@ pub struct Place {
 
 // Whether a thread may be given a turn.
 #[derive(Clone, Copy)]
-pub enum Status {
+pub(crate) enum Status {
     Ready,
     Finished,
     Waiting,
@@ -89,21 +89,21 @@ pub enum Status {
 
 // Which threads are ready, and whether all are finished.
 #[derive(Clone, Copy)]
-pub struct Survey {
+pub(crate) struct Survey {
     ready: [bool; 8],
     over: bool,
 }
 
 // An open block: where it began, and the context level inside it.
 #[derive(Clone, Copy)]
-pub struct Mark {
+pub(crate) struct Mark {
     pub opener: u16,
     pub level: u32,
 }
 
 // What a put leaves on a channel: a value, or a mark in its place with value 0.
 #[derive(Clone, Copy)]
-pub struct Entry {
+pub(crate) struct Entry {
     pub turn: u32,
     pub thread: u8,
     pub mark: bool,
@@ -112,7 +112,7 @@ pub struct Entry {
 
 // A thread at its turn: its number, where it stands, and the step there.
 #[derive(Clone, Copy)]
-pub struct Turn {
+pub(crate) struct Turn {
     thread: usize,
     place: Place,
     step: Step,
@@ -120,7 +120,7 @@ pub struct Turn {
 
 // A track or a channel, and its part of the lent memory.
 #[derive(Clone, Copy)]
-pub struct Port {
+pub(crate) struct Port {
     pub level: u32,
     pub start: usize,
     pub size: usize,
@@ -130,7 +130,7 @@ pub struct Port {
 
 // A run but for its scheduler.
 #[derive(Drop)]
-pub struct Core {
+pub(crate) struct Core {
     pub variables: u8,
     pub cells: [Cell; 64],
     pub count: u8,
@@ -151,7 +151,7 @@ fn stops(over: bool, turns: u32) -> bool
 
 // A run of a script: its scheduler and all else.
 #[derive(Drop)]
-pub struct Run<K: Lattice, S: Scheduler> {
+pub(crate) struct Run<K: Lattice, S: Scheduler> {
     pub kind: PhantomData<K>,
     pub scheduler: S,
     pub core: Core,
@@ -182,7 +182,7 @@ impl<K: Lattice, S: Scheduler> Run<K, S> {
     }
 
     // Up to n turns; how many were given.
-    pub fn advance(
+    pub(crate) fn advance(
         &mut self,
         n: u32,
         table: &[Step],

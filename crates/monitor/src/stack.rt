@@ -5,14 +5,14 @@ ghost use lib.ListN.{length, getD, set};
 
 // The slot of its first item, and how many items it holds, 16 at most; the last of them is its top.
 #[derive(Clone, Copy)]
-pub struct Stack {
+pub(crate) struct Stack {
     pub base: usize,
     pub held: usize,
 }
 
 impl Stack {
     // One item more, which is then the top.
-    pub fn push<T: Copy>(self, slots: &mut [T], item: T) -> Stack
+    pub(crate) fn push<T: Copy>(self, slots: &mut [T], item: T) -> Stack
         requires room { ⌜ self .held < 16 ⌝ ∗ ⌜ self .base + self .held < length (now slots) ⌝ }
         ensures stack { λ r. ⌜ r ≡ record { base = self .base; held = self .held + 1 } ⌝ }
         ensures slots { λ _. ⌜ now (slots .exit) ≡ set (now (slots .entry)) (self .base + self .held) item ⌝ }
@@ -25,7 +25,7 @@ impl Stack {
     }
 
     // The same without its topmost n items; their slots stay as they are.
-    pub fn without(self, n: usize) -> Stack
+    pub(crate) fn without(self, n: usize) -> Stack
         requires { ⌜ n ≤ self .held ⌝ }
         ensures { λ r. ⌜ r ≡ record { base = self .base; held = self .held - n } ⌝ }
     {
@@ -36,7 +36,7 @@ impl Stack {
     }
 
     // The item number n from the top on, which is number 1.
-    pub fn item<T: Copy>(self, slots: &[T], n: usize) -> T
+    pub(crate) fn item<T: Copy>(self, slots: &[T], n: usize) -> T
         requires { ⌜ 0 < n ⌝ ∗ ⌜ n ≤ self .held ⌝ ∗ ⌜ self .base + self .held ≤ length (now slots) ⌝ }
         ensures { λ r. ⌜ ((d : T) → r ≡ getD (now (slots .entry)) (self .base + (self .held - n)) d) ⌝ }
     {

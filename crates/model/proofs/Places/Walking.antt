@@ -8,7 +8,7 @@ use lib.ListN.{length, drop}
 use Rattle.script.specs.Code.{Code}
 use Rattle.script.specs.Code.Code.{done, skip, assign, put, branch, loop, lock}
 use Rattle.codec.specs.Frames.{Frame}
-use Rattle.codec.specs.Frames.Frame.{thread, thread-end, else, end-if, end-while, end-with, last}
+use Rattle.codec.specs.Frames.Frame.{thread-end, else, end-if, end-while, end-with, last}
 use Rattle.script.specs.Trees.{flatten}
 use Rattle.model.specs.Threads.{Open}
 use Rattle.model.specs.Threads.Open.{in-branch, in-loop, in-lock}

@@ -1,5 +1,5 @@
 use mathlib.Core.Path.{sym, ap, _∙_}
-use Prim.Native.Nat.{_+_, _*_}
+use Prim.Native.Nat.{_*_}
 use lib.ListN.{getD}
 use Rattle.monitor.specs.Flat.{guard-marks, nil-place}
 use Rattle.monitor.proofs.Loops.{guard-threads-none, guard-threads-more}

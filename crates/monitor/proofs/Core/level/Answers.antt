@@ -1,4 +1,4 @@
-use mathlib.Core.Path.{_≡_, sym, ap, _∙_}
+use mathlib.Core.Path.{sym, ap, _∙_}
 use Rattle.codec.specs.Expressions.{Expr}
 use Rattle.model.specs.Values.{joined}
 use Rattle.monitor.specs.Flat.{cell-level, track-level}

@@ -1,4 +1,4 @@
-use mathlib.Core.Path.{_≡_, sym, ap, subst, _∙_}
+use mathlib.Core.Path.{sym, ap, subst, _∙_}
 use Rattle.codec.specs.declared.expressions.Op.{Op}
 use Rattle.codec.specs.Operations.{op-of}
 use Rattle.monitor.specs.Operations.{joined-one, Named}

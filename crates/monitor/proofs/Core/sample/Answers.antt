@@ -1,10 +1,9 @@
-use mathlib.Core.Path.{_≡_, sym, ap, _∙_}
+use mathlib.Core.Path.{sym, ap, _∙_}
 use mathlib.Core.List.{List}
 use lib.IntN.{ℤ}
 use mir.Syntax.{w32}
 use Rattle.std.proofs.shelf.Signed.{toZ-ofZ}
 use Rattle.model.specs.Values.{sample-at}
-use Rattle.monitor.specs.Flat.{nil-port, track-of}
 use Rattle.monitor.proofs.Readings.{below-zero, not-below, track-at}
 use Rattle.monitor.proofs.Core.sample.Needs as need
 

@@ -3,9 +3,7 @@ use mathlib.Core.Bool.{_&&_}
 use native.Mathlib.Omega.{arith}
 use Prim.Native.Nat.{_<_}
 use lib.ListN.{length, length-set}
-use borrow.Author.Needs.{needs}
 use Rattle.model.specs.Machine.{is-ready, is-finished}
-use Rattle.monitor.specs.Statuses.{status-now}
 use Rattle.monitor.proofs.Advancing.{answers-more, all-none, all-more}
 use Rattle.monitor.proofs.Core.survey.Needs as need
 

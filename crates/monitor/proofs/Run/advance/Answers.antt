@@ -1,4 +1,3 @@
-use mathlib.Core.Path.{sym}
 use native.Mathlib.Omega.{arith}
 use Rattle.monitor.proofs.Advancing.{all-fit, below-limit, gone-none, gone-more, gone-all, gone-stop}
 use Rattle.monitor.proofs.Run.advance.Needs as need

@@ -1,7 +1,6 @@
 use borrow.Author.Needs.{needs}
 use Rattle.std.proofs.shelf.Signed.{wraps}
 use Rattle.model.specs.Values.{apply-unary}
-use Rattle.std.specs.shelf.Signed.{wrapped}
 use Rattle.monitor.proofs.values.alter.Needs as need
 
 pub returns-in-Negated : need.returns-in-Negated
