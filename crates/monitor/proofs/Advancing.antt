@@ -9,7 +9,7 @@ use Rattle.script.specs.Code.{Script}
 use Rattle.model.specs.Machine.{State, status, status_is_ready, status_is_finished, each_from, all_true, rules, ready_set, all_finished, take_turn, advance}
 use Rattle.model.specs.Threads.{Thread}
 use Rattle.scheduler.specs.Turns.{Meaning, Obedient, answered}
-use Rattle.survey.specs.declared.table.Step.{Step}
+use Rattle.monitor.specs.declared.Step.{Step}
 use Rattle.monitor.specs.declared.Mark.{Mark}
 use Rattle.monitor.specs.declared.Entry.{Entry}
 use Rattle.monitor.specs.declared.Core.{Core}
@@ -82,27 +82,27 @@ module _ (k : Levels) (table : List Step) (code : List ℕ) (ss : List ℤ) (c :
       ⊎_elim (λ (q : c.turns ≡ 1000000). absurd (eqb-false c.turns 1000000 ne q)) (λ (n : c.turns ≢ 1000000). omega arith) (cases_eq c.turns 1000000)
 
   module _ (sc : Script) (s : State) (runs : Runs sc table code ss (mem c ms es) s) where
-    status-same : (i : ℕ) → i < c.head.threads → status_now k table code ss i c ms ≡ status k sc s i
+    status-same : (i : ℕ) → i < c.count → status_now k table code ss i c ms ≡ status k sc s i
     status-same i lt = status_is c.turns k sc table code ss c ms es runs.ts runs.views i lt ∙ ap (λ (z : State). status k sc z i) (sym runs.is)
 
-    many : length s.threads ≡ c.head.threads
+    many : length s.threads ≡ c.count
     many = ap (λ (z : State). length z.threads) runs.is ∙ runs.views.count
 
-    pub ready_is : (ready : List Bool) → length ready ≡ 8 → ReadyList k table code ss c ms ready c.head.threads → take c.head.threads ready ≡ ready_set (rules k sc) s
+    pub ready_is : (ready : List Bool) → length ready ≡ 8 → ReadyList k table code ss c ms ready c.count → take c.count ready ≡ ready_set (rules k sc) s
     ready_is ready eight h =
         let few = runs.views.declares.few in
         let n = many in
         let f : ℕ → Bool = λ i. status_is_ready (status k sc s i) in
-        ext_get_or false (take c.head.threads ready) (ready_set (rules k sc) s) (omega (arith, length-take c.head.threads ready, from_length f 0 s.threads))
+        ext_get_or false (take c.count ready) (ready_set (rules k sc) s) (omega (arith, length-take c.count ready, from_length f 0 s.threads))
         (λ j lt.
-        let jn : j < c.head.threads = omega (arith, length-take c.head.threads ready) in
+        let jn : j < c.count = omega (arith, length-take c.count ready) in
         let at : 0 + j ≡ j = omega arith in
-        get_or-take c.head.threads ready j false jn ∙ h j jn ∙ ap status_is_ready (status-same j jn) ∙ sym (from_getD f 0 s.threads j (omega arith) ∙ ap f at))
+        get_or-take c.count ready j false jn ∙ h j jn ∙ ap status_is_ready (status-same j jn) ∙ sym (from_getD f 0 s.threads j (omega arith) ∙ ap f at))
 
-    pub over_is : over_first k table code ss c ms c.head.threads ≡ all_finished (rules k sc) s
+    pub over_is : over_first k table code ss c ms c.count ≡ all_finished (rules k sc) s
     over_is =
         let n = many in
-        let e : 0 + length s.threads ≡ c.head.threads = omega arith in
+        let e : 0 + length s.threads ≡ c.count = omega arith in
         sym (sym (ap (λ (b : Bool). b && all_true (each_from (λ i. status_is_finished (status k sc s i)) 0 s.threads)) (all_none (λ j. status_is_finished (status_now k table code ss j c ms))))
         ∙ all_from (λ j. status_is_finished (status_now k table code ss j c ms)) (λ i. status_is_finished (status k sc s i)) 0 s.threads (λ j lt. ap status_is_finished (sym (status-same j (omega arith))))
         ∙ ap (all_first (λ j. status_is_finished (status_now k table code ss j c ms))) e)
@@ -123,7 +123,7 @@ chosen_within schedule law g rs n None le e = tt
 chosen_within schedule law g rs n (Some i) le e = let lt = holds_within rs i (law.picks_ready g rs i (sym e)) in omega arith
 
 module _ {G : Type 0} (k : Levels) (schedule : Meaning G) (table : List Step) (code : List ℕ) (ss : List ℤ) where
-  pub turn_runs : (c : Core) (ms : List Mark) (es : List Entry) (y : Mem) (g h : G) (ready rs : List Bool) (o : Option ℕ) → length ready ≡ 8 → ReadyList k table code ss c ms ready c.head.threads → rs ≡ take c.head.threads ready
+  pub turn_runs : (c : Core) (ms : List Mark) (es : List Entry) (y : Mem) (g h : G) (ready rs : List Bool) (o : Option ℕ) → length ready ≡ 8 → ReadyList k table code ss c ms ready c.count → rs ≡ take c.count ready
       → answered o ≡ (schedule g rs).0 → h ≡ (schedule g rs).1
       → ((sc : Script) (s : State) → Runs sc table code ss (mem c ms es) s → Runs sc table code ss y (take_turn (rules k sc) s (answered o)))
       → (sc : Script) (s : State) → Runs sc table code ss (mem c ms es) s → Turned k schedule table code ss (mem c ms es) y g h sc s
@@ -154,12 +154,12 @@ module _ {G : Type 0} (k : Levels) (schedule : Meaning G) (table : List Step) (c
         scheduler = ap (λ (m : ℕ). (advance (rules k sc) schedule m s g).2) e;
       }
 
-  stops_is : (c : Core) (ms : List Mark) (es : List Entry) (sc : Script) (s : State) → Runs sc table code ss (mem c ms es) s → (b over : Bool) → over ≡ over_first k table code ss c ms c.head.threads → b ≡ (over || eqb c.turns 1000000) → (all_finished (rules k sc) s || eqb s.turns 1000000) ≡ b
+  stops_is : (c : Core) (ms : List Mark) (es : List Entry) (sc : Script) (s : State) → Runs sc table code ss (mem c ms es) s → (b over : Bool) → over ≡ over_first k table code ss c ms c.count → b ≡ (over || eqb c.turns 1000000) → (all_finished (rules k sc) s || eqb s.turns 1000000) ≡ b
   stops_is c ms es sc s runs b over o e =
       let t : s.turns ≡ c.turns = ap (λ (z : State). z.turns) runs.is in
       sym (e ∙ (λ j. (o ∙ over_is k table code ss c ms es sc s runs) j || eqb (sym t j) 1000000))
 
-  pub gone_more : (n given : ℕ) (c : Core) (ms : List Mark) (es : List Entry) (y : Mem) (g h h' : G) (over : Bool) (sc : Script) (s : State) → given < n → over ≡ over_first k table code ss c ms c.head.threads → false ≡ (over || eqb c.turns 1000000)
+  pub gone_more : (n given : ℕ) (c : Core) (ms : List Mark) (es : List Entry) (y : Mem) (g h h' : G) (over : Bool) (sc : Script) (s : State) → given < n → over ≡ over_first k table code ss c ms c.count → false ≡ (over || eqb c.turns 1000000)
       → ((sc : Script) (s : State) → Runs sc table code ss (mem c ms es) s → Turned k schedule table code ss (mem c ms es) y h h' sc s)
       → Gone n given (mem c ms es) g h sc s → Gone n (given + 1) y g h' sc s
   gone_more n given c ms es y g h h' over sc s lt o stop step gone =
@@ -196,7 +196,7 @@ module _ {G : Type 0} (k : Levels) (schedule : Meaning G) (table : List Step) (c
   pub gone_all : (n given : ℕ) (y : Mem) (g h : G) (sc : Script) (s : State) → n ≤ given → Gone n given y g h sc s → Advanced k schedule table code ss n given y g h sc s
   gone_all n given y g h sc s le gone = let e : n - given ≡ 0 = omega arith in gone_over n given y g h sc s gone (ap (λ (x : ℕ). advance (rules k sc) schedule x gone.state h) e)
 
-  pub gone_stop : (n given : ℕ) (c : Core) (ms : List Mark) (es : List Entry) (g h : G) (over : Bool) (sc : Script) (s : State) → given < n → over ≡ over_first k table code ss c ms c.head.threads → true ≡ (over || eqb c.turns 1000000)
+  pub gone_stop : (n given : ℕ) (c : Core) (ms : List Mark) (es : List Entry) (g h : G) (over : Bool) (sc : Script) (s : State) → given < n → over ≡ over_first k table code ss c ms c.count → true ≡ (over || eqb c.turns 1000000)
       → Gone n given (mem c ms es) g h sc s → Advanced k schedule table code ss n given (mem c ms es) g h sc s
   gone_stop n given c ms es g h over sc s lt o stop gone =
       let u = gone.state in

@@ -12,18 +12,17 @@ use Rattle.codec.specs.Frames.Frame.{thread_end, if, else, end_if, while, end_wh
 use Rattle.script.specs.Trees.{flatten, script_frames}
 use Rattle.model.specs.Places.{Opened, flatten_inside}
 use Rattle.model.proofs.Places.Skipping.{frame_here, past_lands}
-use Rattle.survey.specs.declared.table.Kind.{Kind}
-use Rattle.survey.specs.declared.table.Kind.TheVariants.{End, Skip, Assign, Put, If, Else, EndIf, While, EndWhile, With, EndWith}
-use Rattle.survey.specs.declared.table.Step.{Step}
+use Rattle.monitor.specs.declared.Kind.{Kind}
+use Rattle.monitor.specs.declared.Kind.TheVariants.{End, Skip, Assign, Put, If, Else, EndIf, While, EndWhile, With, EndWith}
+use Rattle.monitor.specs.declared.Step.{Step}
 use Rattle.monitor.specs.declared.Mark.{Mark}
 use Rattle.monitor.specs.declared.Pace.{Pace}
 use Rattle.monitor.specs.declared.Place.{Place}
 use Rattle.monitor.specs.declared.Entry.{Entry}
 use Rattle.monitor.specs.declared.Core.{Core}
-use Rattle.monitor.specs.Flat.{nil_mark, nil_place, first_mark, pace_at, head_of_core, FitNow, SoundStep, Sized, Fit}
-use Rattle.survey.specs.Table.{step_at_place, Holds}
+use Rattle.monitor.specs.Table.{nil_mark, step_at_place, Holds}
+use Rattle.monitor.specs.Flat.{nil_place, first_mark, pace_at, head_of_core, FitNow, SoundStep, Sized, Fit}
 use Rattle.monitor.specs.Views.{openers, Leveled, ThreadView, Views}
-use Rattle.model.specs.Fitting.{behind_thread}
 use Rattle.monitor.proofs.Marks.{leveled_length}
 use Rattle.monitor.proofs.Guards.{reads}
 use Rattle.monitor.proofs.Stepping.{next_place, beyond_here}
@@ -81,11 +80,11 @@ module _ (most : ℕ) (sc : Script) (table : List Step) (code : List ℕ) (c : C
         short = omega arith;
         room = v.room;
         deep = λ j lt. (v.threads j lt).deep;
-        placed = λ j lt. let t = v.threads j lt in let w : (get_or c.threads j nil_place).at < length (script_frames sc) = stands_within _ (script_frames sc) (get_or ts j ended).code (get_or ts j ended).inside (behind_thread sc j) t.stands.stands.here in omega arith;
-        openers = λ j k lt lk. let t = v.threads j lt in let w : (get_or ms (first_mark j + k) nil_mark).opener < length (script_frames sc) = opener_within (script_frames sc) (behind_thread sc j) ms (first_mark j) (get_or c.threads j nil_place).depth (get_or ts j ended).inside t.stands.stands.opened k lk in omega arith;
+        placed = λ j lt. let t = v.threads j lt in let w : (get_or c.threads j nil_place).at < length (script_frames sc) = stands_within _ (script_frames sc) (get_or ts j ended).code (get_or ts j ended).inside t.rest t.stands.stands.here in omega arith;
+        openers = λ j k lt lk. let t = v.threads j lt in let w : (get_or ms (first_mark j + k) nil_mark).opener < length (script_frames sc) = opener_within (script_frames sc) t.rest ms (first_mark j) (get_or c.threads j nil_place).depth (get_or ts j ended).inside t.stands.stands.opened k lk in omega arith;
       }
 
-  module _ (i : ℕ) (within : i < c.head.threads) where
+  module _ (i : ℕ) (within : i < c.count) where
     abbrev at_now : Place
     at_now = get_or c.threads i nil_place
 
@@ -93,7 +92,7 @@ module _ (most : ℕ) (sc : Script) (table : List Step) (code : List ℕ) (c : C
     step_now = step_at_place table at_now.at
 
     abbrev View : Thread → Type 0
-    View t = ThreadView (head_of_core c) (script_frames sc) (behind_thread sc i) table ms i at_now t
+    View t = ThreadView (head_of_core c) (script_frames sc) table ms i at_now t
 
     abbrev Fits : Pace → Kind → Type 0
     Fits q kd = FitNow q kd c table code at_now step_now
@@ -119,44 +118,44 @@ module _ (most : ℕ) (sc : Script) (table : List Step) (code : List ℕ) (c : C
     fits-case : (cd : Code) (pc : ModelPace) (os : List Open) → View (record { code = cd; pace = pc; inside = os }) → Fits at_now.pace step_now.kind
     fits-case cd (idling n) [] tv = absurd tv.idles
     fits-case cd (idling n) (in_branch l w a b next ∷ os) tv =
-        let P : Code → Type 0 = λ x. drop at_now.at (script_frames sc) ≡ flatten x (flatten_inside (in_branch l w a b next ∷ os) (behind_thread sc i)) in
+        let P : Code → Type 0 = λ x. drop at_now.at (script_frames sc) ≡ flatten x (flatten_inside (in_branch l w a b next ∷ os) tv.rest) in
         let Q : Pace → Type 0 = λ q. Fits q step_now.kind in
         let here = subst P tv.stands.idle tv.stands.stands.here in
-        subst Q (sym tv.paced) (deeper _ os tv.leveled, inside-table _ next os (behind_thread sc i) (beyond_here most sc table code c ms es ts v i w l a b next os (behind_thread sc i) here))
+        subst Q (sym tv.paced) (deeper _ os tv.leveled, inside-table _ next os tv.rest (beyond_here most sc table code c ms es ts v i w l a b next os tv.rest here))
     fits-case cd (idling n) (in_loop e b next ∷ os) tv = absurd tv.idles
     fits-case cd (idling n) (in_lock x next ∷ os) tv = absurd tv.idles
     fits-case done running [] tv = at_kind End tv.paced (reads (head_of_core c) code table (script_frames sc) v.tabled at_now.at _ tv.stands.stands.here) tt
     fits-case done running (in_branch l true a b next ∷ os) tv =
         let here = tv.stands.stands.here in
         let r = reads (head_of_core c) code table (script_frames sc) v.tabled at_now.at _ here in
-        at_kind Else tv.paced r.0 (inside-table step_now.other next os (behind_thread sc i) (ap (λ (n : ℕ). drop n (script_frames sc)) r.1 ∙ past_lands at_now.at (script_frames sc) else end_if b _ refl here), deeper _ os tv.leveled)
+        at_kind Else tv.paced r.0 (inside-table step_now.other next os tv.rest (ap (λ (n : ℕ). drop n (script_frames sc)) r.1 ∙ past_lands at_now.at (script_frames sc) else end_if b _ refl here), deeper _ os tv.leveled)
     fits-case done running (in_branch l false a b next ∷ os) tv =
         let here = tv.stands.stands.here in
-        at_kind EndIf tv.paced (reads (head_of_core c) code table (script_frames sc) v.tabled at_now.at _ here) (inside-table (at_now.at + 1) next os (behind_thread sc i) (next_place at_now.at _ here), deeper _ os tv.leveled)
+        at_kind EndIf tv.paced (reads (head_of_core c) code table (script_frames sc) v.tabled at_now.at _ here) (inside-table (at_now.at + 1) next os tv.rest (next_place at_now.at _ here), deeper _ os tv.leveled)
     fits-case done running (in_loop e b next ∷ os) tv =
         at_kind EndWhile tv.paced (reads (head_of_core c) code table (script_frames sc) v.tabled at_now.at _ tv.stands.stands.here) (deeper _ os tv.leveled)
     fits-case done running (in_lock x next ∷ os) tv =
         let here = tv.stands.stands.here in
-        at_kind EndWith tv.paced (reads (head_of_core c) code table (script_frames sc) v.tabled at_now.at _ here) (inside-table (at_now.at + 1) next os (behind_thread sc i) (next_place at_now.at _ here), deeper _ os tv.leveled)
+        at_kind EndWith tv.paced (reads (head_of_core c) code table (script_frames sc) v.tabled at_now.at _ here) (inside-table (at_now.at + 1) next os tv.rest (next_place at_now.at _ here), deeper _ os tv.leveled)
     fits-case (skip cd) running os tv =
         let here = tv.stands.stands.here in
-        at_kind Skip tv.paced (reads (head_of_core c) code table (script_frames sc) v.tabled at_now.at _ here) (inside-table (at_now.at + 1) cd os (behind_thread sc i) (next_place at_now.at _ here))
+        at_kind Skip tv.paced (reads (head_of_core c) code table (script_frames sc) v.tabled at_now.at _ here) (inside-table (at_now.at + 1) cd os tv.rest (next_place at_now.at _ here))
     fits-case (assign x e cd) running os tv =
         let here = tv.stands.stands.here in
         let r = reads (head_of_core c) code table (script_frames sc) v.tabled at_now.at _ here in
-        let lt = ltb→lt x c.head.variables tv.valid.code.0 in
-        at_kind Assign tv.paced r.0 (inside-table (at_now.at + 1) cd os (behind_thread sc i) (next_place at_now.at _ here), omega (arith, r.1), sound e r.2)
+        let lt = ltb→lt x c.variables tv.valid.code.0 in
+        at_kind Assign tv.paced r.0 (inside-table (at_now.at + 1) cd os tv.rest (next_place at_now.at _ here), omega (arith, r.1), sound e r.2)
     fits-case (put h e cd) running os tv =
         let here = tv.stands.stands.here in
         let r = reads (head_of_core c) code table (script_frames sc) v.tabled at_now.at _ here in
-        let lt = ltb→lt h c.head.channels tv.valid.code.0 in
-        at_kind Put tv.paced r.0 (inside-table (at_now.at + 1) cd os (behind_thread sc i) (next_place at_now.at _ here), omega (arith, r.1), sound e r.2)
+        let lt = ltb→lt h c.nchannels tv.valid.code.0 in
+        at_kind Put tv.paced r.0 (inside-table (at_now.at + 1) cd os tv.rest (next_place at_now.at _ here), omega (arith, r.1), sound e r.2)
     fits-case (branch e a b cd) running os tv =
         let here = tv.stands.stands.here in
         let r = reads (head_of_core c) code table (script_frames sc) v.tabled at_now.at _ here in
         at_kind If tv.paced r.0 (
-          inside-table (at_now.at + 1) a (in_branch 0 true a b cd ∷ os) (behind_thread sc i) (next_place at_now.at _ here),
-          inside-table step_now.other b (in_branch 0 false a b cd ∷ os) (behind_thread sc i) (ap (λ (n : ℕ). drop n (script_frames sc)) r.1 ∙ past_lands at_now.at (script_frames sc) (if e) else a _ refl here),
+          inside-table (at_now.at + 1) a (in_branch 0 true a b cd ∷ os) tv.rest (next_place at_now.at _ here),
+          inside-table step_now.other b (in_branch 0 false a b cd ∷ os) tv.rest (ap (λ (n : ℕ). drop n (script_frames sc)) r.1 ∙ past_lands at_now.at (script_frames sc) (if e) else a _ refl here),
           shallow os tv.leveled tv.valid.code.0,
           sound e r.2,
         )
@@ -164,8 +163,8 @@ module _ (most : ℕ) (sc : Script) (table : List Step) (code : List ℕ) (c : C
         let here = tv.stands.stands.here in
         let r = reads (head_of_core c) code table (script_frames sc) v.tabled at_now.at _ here in
         at_kind While tv.paced r.0 (
-          inside-table (at_now.at + 1) b (in_loop e b cd ∷ os) (behind_thread sc i) (next_place at_now.at _ here),
-          inside-table step_now.other cd os (behind_thread sc i) (ap (λ (n : ℕ). drop n (script_frames sc)) r.1 ∙ past_lands at_now.at (script_frames sc) (while e) end_while b _ refl here),
+          inside-table (at_now.at + 1) b (in_loop e b cd ∷ os) tv.rest (next_place at_now.at _ here),
+          inside-table step_now.other cd os tv.rest (ap (λ (n : ℕ). drop n (script_frames sc)) r.1 ∙ past_lands at_now.at (script_frames sc) (while e) end_while b _ refl here),
           shallow os tv.leveled tv.valid.code.0,
           sound e r.2,
         )
@@ -173,7 +172,7 @@ module _ (most : ℕ) (sc : Script) (table : List Step) (code : List ℕ) (c : C
         let here = tv.stands.stands.here in
         let r = reads (head_of_core c) code table (script_frames sc) v.tabled at_now.at _ here in
         at_kind With tv.paced r.0
-        (inside-table (at_now.at + 1) b (in_lock x cd ∷ os) (behind_thread sc i) (next_place at_now.at _ here), shallow os tv.leveled tv.valid.code.0, sound e r.2)
+        (inside-table (at_now.at + 1) b (in_lock x cd ∷ os) tv.rest (next_place at_now.at _ here), shallow os tv.leveled tv.valid.code.0, sound e r.2)
 
     pub views_fit : most ≤ c.turns → Fit c table code ms es i
     views_fit le =

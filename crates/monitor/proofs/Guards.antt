@@ -6,12 +6,11 @@ use Rattle.model.specs.Threads.{Open, Thread, ended, guard_of, guard}
 use Rattle.model.specs.Threads.Open.{in_branch, in_loop, in_lock}
 use Rattle.codec.specs.Frames.{Head, Frame}
 use Rattle.model.specs.Places.{Opened}
-use Rattle.survey.specs.declared.table.Step.{Step}
+use Rattle.monitor.specs.declared.Step.{Step}
 use Rattle.monitor.specs.declared.Mark.{Mark}
 use Rattle.monitor.specs.declared.Place.{Place}
-use Rattle.monitor.specs.Flat.{nil_mark, guard_marks, guard_threads, first_mark, nil_place}
-use Rattle.survey.specs.Stretches.{has_bit}
-use Rattle.survey.specs.Table.{step_at_place, Reads, Tabled}
+use Rattle.monitor.specs.Table.{nil_mark, step_at_place, has_bit, Reads, Tabled}
+use Rattle.monitor.specs.Flat.{guard_marks, guard_threads, first_mark, nil_place}
 use Rattle.monitor.specs.Views.{openers, Leveled, ThreadView}
 
 pub no_bit : (x : ℕ) → has_bit 0 x ≡ false
@@ -43,15 +42,15 @@ module _ (k : Levels) (h : Head) (code : List ℕ) (table : List Step) (fs : Lis
   guard_push [] t acc = refl
   guard_push (u ∷ ts) t acc = guard_push ts t (guard_of k x u.inside acc)
 
-  pub guard_first : (after : ℕ → List Frame) (ms : List Mark) (ps : List Place) (ts : List Thread) → ((j : ℕ) → j < length ts → ThreadView h fs (after j) table ms j (get_or ps j nil_place) (get_or ts j ended)) → (n : ℕ) → n ≤ length ts → guard_threads k table ms x ps n ≡ guard k x (take n ts) 0
+  pub guard_first : (ms : List Mark) (ps : List Place) (ts : List Thread) → ((j : ℕ) → j < length ts → ThreadView h fs table ms j (get_or ps j nil_place) (get_or ts j ended)) → (n : ℕ) → n ≤ length ts → guard_threads k table ms x ps n ≡ guard k x (take n ts) 0
   unfolding guard_threads
-  guard_first after ms ps ts all zero le = refl
-  guard_first after ms ps ts all (suc n) le =
+  guard_first ms ps ts all zero le = refl
+  guard_first ms ps ts all (suc n) le =
       let v = all n (omega arith) in
-      let inner = guard_first after ms ps ts all n (omega arith) in
+      let inner = guard_first ms ps ts all n (omega arith) in
       ap (guard_marks k table ms x (first_mark n) (get_or ps n nil_place).depth) inner
-      ∙ guard_marks_is ms (after n) (first_mark n) (get_or ps n nil_place).depth (guard k x (take n ts) 0) (get_or ts n ended).inside v.leveled v.stands.stands.opened
+      ∙ guard_marks_is ms v.rest (first_mark n) (get_or ps n nil_place).depth (guard k x (take n ts) 0) (get_or ts n ended).inside v.leveled v.stands.stands.opened
       ∙ sym (ap (λ (us : List Thread). guard k x us 0) (take-suc ts n ended (omega arith)) ∙ guard_push (take n ts) (get_or ts n ended) 0)
 
-  pub guard_is : (after : ℕ → List Frame) (ms : List Mark) (ps : List Place) (ts : List Thread) → ((j : ℕ) → j < length ts → ThreadView h fs (after j) table ms j (get_or ps j nil_place) (get_or ts j ended)) → guard_threads k table ms x ps (length ts) ≡ guard k x ts 0
-  guard_is after ms ps ts all = guard_first after ms ps ts all (length ts) (omega arith) ∙ ap (λ (us : List Thread). guard k x us 0) (take_all (length ts) ts (omega arith))
+  pub guard_is : (ms : List Mark) (ps : List Place) (ts : List Thread) → ((j : ℕ) → j < length ts → ThreadView h fs table ms j (get_or ps j nil_place) (get_or ts j ended)) → guard_threads k table ms x ps (length ts) ≡ guard k x ts 0
+  guard_is ms ps ts all = guard_first ms ps ts all (length ts) (omega arith) ∙ ap (λ (us : List Thread). guard k x us 0) (take_all (length ts) ts (omega arith))

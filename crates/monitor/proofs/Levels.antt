@@ -7,13 +7,20 @@ use Rattle.codec.specs.Frames.{Head}
 use Rattle.codec.specs.Sound.{declared}
 use Rattle.codec.specs.declared.expressions.Op.{Op}
 use Rattle.codec.specs.declared.expressions.Op.TheVariants.{Constant, Variable, Sample, Held, Two, One}
-use Rattle.model.proofs.Tests.{and_left, and_right}
 use Rattle.monitor.specs.declared.Core.{Core}
 use Rattle.codec.specs.Expressions as C
 use Rattle.codec.specs.Expressions.{Expr, Decoded, decode}
 use Rattle.codec.specs.Operations.{First, op_of, stopped}
 use Rattle.monitor.specs.Operations.{joined_one, Named}
 use Rattle.monitor.specs.Flat.{nil_cell, nil_port, cell_of, level_of_port, cell_level, track_level}
+
+pub and_left : (a b : Bool) → T (a && b) → T a
+and_left true b t = tt
+and_left false b t = absurd t
+
+pub and_right : (a b : Bool) → T (a && b) → T b
+and_right true b t = t
+and_right false b t = absurd t
 
 pub joined_more : (k : Levels) (vl tl : ℕ → ℕ) (o : Op) (e : Expr) (acc : ℕ) → joined k vl tl (op_of o ∷ e) acc ≡ joined k vl tl e (joined_one k vl tl (op_of o) acc)
 joined_more k vl tl (Constant z) e acc = refl
@@ -41,8 +48,8 @@ unfolding decode
 ops_none [] h = refl
 ops_none (b ∷ bs) h = ap (λ (d : Decoded). d.ops) (h (omega arith))
 
-pub cell_level_at : (c : Core) (x : ℕ) → x < c.head.variables → (get_or c.cells x nil_cell).level ≡ cell_level c x
-cell_level_at c x lt = sym (ap (λ z. z.level) (get_or-map cell_of (take c.head.variables c.cells) x nil_cell) ∙ ap (λ z. z.level) (get_or-take c.head.variables c.cells x nil_cell lt))
+pub cell_level_at : (c : Core) (x : ℕ) → x < c.variables → (get_or c.cells x nil_cell).level ≡ cell_level c x
+cell_level_at c x lt = sym (ap (λ z. z.level) (get_or-map cell_of (take c.variables c.cells) x nil_cell) ∙ ap (λ z. z.level) (get_or-take c.variables c.cells x nil_cell lt))
 
-pub track_level_at : (c : Core) (t : ℕ) → t < c.head.tracks → (get_or c.tracks t nil_port).level ≡ track_level c t
-track_level_at c t lt = sym (get_or-map level_of_port (take c.head.tracks c.tracks) t nil_port ∙ ap level_of_port (get_or-take c.head.tracks c.tracks t nil_port lt))
+pub track_level_at : (c : Core) (t : ℕ) → t < c.ntracks → (get_or c.tracks t nil_port).level ≡ track_level c t
+track_level_at c t lt = sym (get_or-map level_of_port (take c.ntracks c.tracks) t nil_port ∙ ap level_of_port (get_or-take c.ntracks c.tracks t nil_port lt))

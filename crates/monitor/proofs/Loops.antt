@@ -1,15 +1,15 @@
 -- The loops of the guard and of raising, a turn at a time.
 use Rattle.std.proofs.Common.{◌≡◌, ℕ, ◌+◌, List, get_or, set, sym, refl, ap, ◌∙◌, add-one}
 use Rattle.lattice.specs.Levels.{Levels}
-use Rattle.survey.specs.declared.table.Step.{Step}
+use Rattle.monitor.specs.declared.Step.{Step}
 use Rattle.monitor.specs.declared.Mark.{Mark}
 use Rattle.monitor.specs.declared.Cell.{Cell}
 use Rattle.monitor.specs.declared.Place.{Place}
 use Rattle.monitor.specs.declared.Core.{Core}
-use Rattle.monitor.specs.Flat.{nil_mark, guard_one, guard_marks, guard_threads, first_mark, nil_place, nil_cell, raised, raised_cell, with_cells}
-use Rattle.survey.specs.Table.{step_at_place}
+use Rattle.monitor.specs.Table.{nil_mark, step_at_place}
 use lib.Bits.{bit_or}
 use Rattle.monitor.specs.Statuses.{owned_marks, reserved_one, reserved_marks, held_one, against_first}
+use Rattle.monitor.specs.Flat.{guard_one, guard_marks, guard_threads, first_mark, nil_place, nil_cell, raised, raised_cell, with_cells}
 
 module _ (k : Levels) (table : List Step) (ms : List Mark) (x : ℕ) where
   pub guard_marks_none : (b acc : ℕ) → guard_marks k table ms x b 0 acc ≡ acc

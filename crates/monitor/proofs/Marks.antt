@@ -2,7 +2,8 @@
 use Rattle.std.proofs.Common.{◌≡◌, ℕ, zero, suc, ◌+◌, ◌-◌, ◌<◌, Bool, false, cond, eqb, List, [], ◌∷◌, length, get_or, set, sym, refl, ap, ◌∙◌, subst, add-one, arith, get_or-set_other, get_or-set_same, ne_eqb}
 use Rattle.model.specs.Threads.{Open, context}
 use Rattle.monitor.specs.declared.Mark.{Mark}
-use Rattle.monitor.specs.Flat.{nil_mark, level_inside}
+use Rattle.monitor.specs.Table.{nil_mark}
+use Rattle.monitor.specs.Flat.{level_inside}
 use Rattle.monitor.specs.Views.{openers, Leveled}
 
 pub leveled_length : (ms : List Mark) (b d : ℕ) (os : List Open) → Leveled ms b d os → length os ≡ d

@@ -12,12 +12,12 @@ use Rattle.monitor.specs.Views.{size_of_port, Apart}
 use Rattle.monitor.proofs.Raising.{take_set_in}
 use Rattle.monitor.proofs.Threads.{Ports}
 
-pub part_more : {X : Type 0} (es : List X) (e : X) (start n : ℕ) → start + n < length es → take (n + 1) (drop start (set es (start + n) e)) ≡ take n (drop start es) ++ e ∷ []
+part_more : {X : Type 0} (es : List X) (e : X) (start n : ℕ) → start + n < length es → take (n + 1) (drop start (set es (start + n) e)) ≡ take n (drop start es) ++ e ∷ []
 part_more es e start n h =
     let l : n < length (drop start es) = simp length-drop (omega arith) in
     ap (take (n + 1)) (drop-set-add start es n e) ∙ take_more_set (drop start es) n e l
 
-pub part_other : {X : Type 0} (es : List X) (e : X) (start n i : ℕ) → (i < start) ⊎ (start + n ≤ i) → take n (drop start (set es i e)) ≡ take n (drop start es)
+part_other : {X : Type 0} (es : List X) (e : X) (start n i : ℕ) → (i < start) ⊎ (start + n ≤ i) → take n (drop start (set es i e)) ≡ take n (drop start es)
 part_other es e start n i h =
     ⊎_elim
     (λ (l : i < start). ap (take n) (drop-set-lt start es i e l))
@@ -27,7 +27,7 @@ part_other es e start n i h =
     h
 
 -- Two lists that differ at one place, where it is set.
-pub set_map_but : {X Y : Type 0} (f g : X → Y) (xs : List X) (d : X) (h : ℕ) (y : Y) → ((j : ℕ) → j < length xs → j ≢ h → f (get_or xs j d) ≡ g (get_or xs j d)) → set (map f xs) h y ≡ set (map g xs) h y
+set_map_but : {X Y : Type 0} (f g : X → Y) (xs : List X) (d : X) (h : ℕ) (y : Y) → ((j : ℕ) → j < length xs → j ≢ h → f (get_or xs j d) ≡ g (get_or xs j d)) → set (map f xs) h y ≡ set (map g xs) h y
 set_map_but f g [] d h y same = refl
 set_map_but f g (x ∷ xs) d zero y same = ap (λ (t : List _). y ∷ t) (all xs (λ j lt. same (suc j) (omega arith) (λ (e : suc j ≡ 0). omega arith)))
   where
@@ -116,7 +116,7 @@ module _ (n : ℕ) (qs : List Port) (h : ℕ) (e : Entry) (es : List Entry) (mos
       (λ (ne : j ≢ h). subst (P j) (sym (get_or-set_other qs h j (added_port port) nil_port ne)) (there j lt ne))
       (cases_eq j h)
 
-  pub ports_added : (c : Core) → c.head.channels ≡ n → c.channels ≡ qs → length qs ≡ 8 → Ports (suc most) (record { head = record { version = c.head.version; kind = c.head.kind; threads = c.head.threads; variables = c.head.variables; tracks = c.head.tracks; channels = n; locks = c.head.locks }; cells = c.cells; threads = c.threads; tracks = c.tracks; channels = qs; turns = c.turns }) (set qs h (added_port port)) (added_entries port e es)
+  pub ports_added : (c : Core) → c.nchannels ≡ n → c.channels ≡ qs → length qs ≡ 8 → Ports (suc most) (record { variables = c.variables; cells = c.cells; count = c.count; threads = c.threads; ntracks = c.ntracks; tracks = c.tracks; nchannels = n; channels = qs; turns = c.turns }) (set qs h (added_port port)) (added_entries port e es)
   ports_added c a b long = record {
     long = length-set qs h (added_port port) ∙ long;
     levels = same_field level_of_port refl;

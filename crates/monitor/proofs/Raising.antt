@@ -6,7 +6,7 @@ use Rattle.lattice.specs.Levels.{Levels}
 use Rattle.model.specs.Machine.{raise}
 use Rattle.model.specs.Values.{Cell as ModelCell}
 use Rattle.monitor.specs.declared.Cell.{Cell}
-use Rattle.survey.specs.Stretches.{has_bit}
+use Rattle.monitor.specs.Table.{has_bit}
 use Rattle.monitor.specs.Flat.{nil_cell, cell_of, raised, raised_cell}
 
 pub take_set_in : {X : Type 0} (n : ℕ) (xs : List X) (i : ℕ) (y : X) → take n (set xs i y) ≡ set (take n xs) i y

@@ -10,11 +10,11 @@ use Rattle.monitor.specs.declared.Core.{Core}
 use Rattle.monitor.specs.declared.Port.{Port}
 use Rattle.monitor.specs.Flat.{nil_cell, nil_port, cell_of, cells_of, track_of, tracks_of}
 
-pub cell_value_at : (c : Core) (x : ℕ) → x < c.head.variables → (get_or c.cells x nil_cell).value ≡ (get_or (cells_of c) x blank).value
-cell_value_at c x lt = sym (ap (λ z. z.value) (get_or-map cell_of (take c.head.variables c.cells) x nil_cell) ∙ ap (λ z. z.value) (get_or-take c.head.variables c.cells x nil_cell lt))
+pub cell_value_at : (c : Core) (x : ℕ) → x < c.variables → (get_or c.cells x nil_cell).value ≡ (get_or (cells_of c) x blank).value
+cell_value_at c x lt = sym (ap (λ z. z.value) (get_or-map cell_of (take c.variables c.cells) x nil_cell) ∙ ap (λ z. z.value) (get_or-take c.variables c.cells x nil_cell lt))
 
-pub track_at : (c : Core) (ss : List ℤ) (t : ℕ) → t < c.head.tracks → get_or (tracks_of c ss) t [] ≡ track_of ss (get_or c.tracks t nil_port)
-track_at c ss t lt = get_or-map (track_of ss) (take c.head.tracks c.tracks) t nil_port ∙ ap (track_of ss) (get_or-take c.head.tracks c.tracks t nil_port lt)
+pub track_at : (c : Core) (ss : List ℤ) (t : ℕ) → t < c.ntracks → get_or (tracks_of c ss) t [] ≡ track_of ss (get_or c.tracks t nil_port)
+track_at c ss t lt = get_or-map (track_of ss) (take c.ntracks c.tracks) t nil_port ∙ ap (track_of ss) (get_or-take c.ntracks c.tracks t nil_port lt)
 
 pub fed_is : (ss : List ℤ) (p : Port) (n : ℕ) → n < p.count → get_or ss (p.start + n) (pos 0) ≡ get_or (track_of ss p) n (pos 0)
 fed_is ss p n lt = sym (get_or-take p.count (drop p.start ss) n (pos 0) lt ∙ get_or-drop p.start ss n (pos 0))
@@ -23,7 +23,7 @@ pub unfed_is : (ss : List ℤ) (p : Port) (n : ℕ) → p.count ≤ n → pos 0 
 unfed_is ss p n le = sym (get_or_past (track_of ss p) n (pos 0) (omega (arith, length-take p.count (drop p.start ss))))
 
 -- How many samples a track holds, as a signed number.
-pub held_is : (c : Core) (ss : List ℤ) (t : ℕ) → t < c.head.tracks → (get_or c.tracks t nil_port).start + (get_or c.tracks t nil_port).count ≤ length ss → (get_or c.tracks t nil_port).count ≤ 2048
+pub held_is : (c : Core) (ss : List ℤ) (t : ℕ) → t < c.ntracks → (get_or c.tracks t nil_port).start + (get_or c.tracks t nil_port).count ≤ length ss → (get_or c.tracks t nil_port).count ≤ 2048
     → to_z w32 (get_or c.tracks t nil_port).count ≡ pos (length (get_or (tracks_of c ss) t []))
 held_is c ss t lt inside few =
     let p = get_or c.tracks t nil_port in

@@ -7,7 +7,7 @@ use Rattle.codec.specs.declared.expressions.Op.{Op}
 use Rattle.codec.specs.declared.expressions.Op.TheVariants.{Constant, Variable, Sample, Held, Two, One}
 use Rattle.model.specs.Values.{Cell, blank, sample_at, top, eval, apply_binary, apply_unary}
 use Rattle.monitor.specs.Operations.{made, numbers_from, taken}
-use Rattle.model.proofs.Tests.{and_left, and_right}
+use Rattle.monitor.proofs.Levels.{and_left, and_right}
 
 -- What lies above the first n numbers does not matter.
 numbers_set : (b n : ℕ) (w : List ℤ) (i : ℕ) (v : ℤ) → n ≤ i → numbers_from b n (set w (b + i) v) ≡ numbers_from b n w

@@ -15,19 +15,18 @@ use Rattle.codec.specs.Frames.{Head, Frame}
 use Rattle.script.specs.Trees.{script_frames}
 use Rattle.model.specs.Places.{Opened}
 use Rattle.lattice.specs.Ors.{or_assoc}
-use Rattle.survey.specs.declared.table.Kind.{Kind}
-use Rattle.survey.specs.declared.table.Kind.TheVariants.{End, Skip, Assign, Put, If, Else, EndIf, While, EndWhile, With, EndWith}
-use Rattle.survey.specs.declared.table.Step.{Step}
+use Rattle.monitor.specs.declared.Kind.{Kind}
+use Rattle.monitor.specs.declared.Kind.TheVariants.{End, Skip, Assign, Put, If, Else, EndIf, While, EndWhile, With, EndWith}
+use Rattle.monitor.specs.declared.Step.{Step}
 use Rattle.monitor.specs.declared.Mark.{Mark}
 use Rattle.monitor.specs.declared.Pace.{Pace}
 use Rattle.monitor.specs.declared.Place.{Place}
 use Rattle.monitor.specs.declared.Entry.{Entry}
 use Rattle.monitor.specs.declared.Core.{Core}
-use Rattle.survey.specs.Table.{step_at_place, Tabled}
+use Rattle.monitor.specs.Table.{step_at_place, Tabled}
 use Rattle.monitor.specs.Flat.{nil_place, first_mark, pace_at, head_of_core, state_of}
 use Rattle.monitor.specs.Statuses.{owned_marks, reserved_marks, against_first, status_by, status_now}
 use Rattle.monitor.specs.Views.{openers, Leveled, ThreadView, Views}
-use Rattle.model.specs.Fitting.{behind_thread}
 use Rattle.monitor.proofs.Marks.{level_inside_is}
 use Rattle.monitor.proofs.Guards.{reads}
 use Rattle.monitor.proofs.Stepping.{value_is, level_is}
@@ -87,22 +86,22 @@ module _ (h : Head) (code : List ℕ) (table : List Step) (fs : List Frame) (tab
   reserved_is r b (suc d) (in_lock k n ∷ os) l o =
       or_none _ _ (no_need _ _ (reads h code table fs tabled _ _ o.0.2).3) ∙ reserved_is r b d os l.1 o.1
 
-  against_to : (after : ℕ → List Frame) (i : ℕ) (ps : List Place) (ts : List Thread) → ((j : ℕ) → j < length ts → ThreadView h fs (after j) table ms j (get_or ps j nil_place) (get_or ts j ended)) → (n : ℕ) → n ≤ length ts → against_first table ms i ps n ≡ against i (take n ts)
+  against_to : (i : ℕ) (ps : List Place) (ts : List Thread) → ((j : ℕ) → j < length ts → ThreadView h fs table ms j (get_or ps j nil_place) (get_or ts j ended)) → (n : ℕ) → n ≤ length ts → against_first table ms i ps n ≡ against i (take n ts)
   unfolding against_first
-  against_to after zero ps ts all zero le = refl
-  against_to after (suc i) ps ts all zero le = refl
-  against_to after i ps ts all (suc n) le =
+  against_to zero ps ts all zero le = refl
+  against_to (suc i) ps ts all zero le = refl
+  against_to i ps ts all (suc n) le =
       let v = all n (omega arith) in
       let t = get_or ts n ended in
-      let own = owned_is (after n) (first_mark n) (get_or ps n nil_place).depth t.inside v.leveled v.stands.stands.opened in
-      let res = reserved_is (after n) (first_mark n) (get_or ps n nil_place).depth t.inside v.leveled v.stands.stands.opened in
-      (λ j. bit_or (against_to after i ps ts all n (omega arith) j) (bit_or (cond (eqb n i) 0 (own j)) (res j)))
+      let own = owned_is v.rest (first_mark n) (get_or ps n nil_place).depth t.inside v.leveled v.stands.stands.opened in
+      let res = reserved_is v.rest (first_mark n) (get_or ps n nil_place).depth t.inside v.leveled v.stands.stands.opened in
+      (λ j. bit_or (against_to i ps ts all n (omega arith) j) (bit_or (cond (eqb n i) 0 (own j)) (res j)))
       ∙ sym (ap (against i) (take-suc ts n ended (omega arith)) ∙ against_push i (take n ts) t (eqb n i) (ap (λ (x : ℕ). eqb x i) (omega (arith, length-take n ts))))
 
-  pub against_is : (after : ℕ → List Frame) (i : ℕ) (ps : List Place) (ts : List Thread) → ((j : ℕ) → j < length ts → ThreadView h fs (after j) table ms j (get_or ps j nil_place) (get_or ts j ended)) → against_first table ms i ps (length ts) ≡ against i ts
-  against_is after i ps ts all = against_to after i ps ts all (length ts) (omega arith) ∙ ap (against i) (take_all (length ts) ts (omega arith))
+  pub against_is : (i : ℕ) (ps : List Place) (ts : List Thread) → ((j : ℕ) → j < length ts → ThreadView h fs table ms j (get_or ps j nil_place) (get_or ts j ended)) → against_first table ms i ps (length ts) ≡ against i ts
+  against_is i ps ts all = against_to i ps ts all (length ts) (omega arith) ∙ ap (against i) (take_all (length ts) ts (omega arith))
 
-module _ (most : ℕ) (k : Levels) (sc : Script) (table : List Step) (code : List ℕ) (ss : List ℤ) (c : Core) (ms : List Mark) (es : List Entry) (ts : List Thread) (v : Views most sc table code c ms es ts) (i : ℕ) (within : i < c.head.threads) where
+module _ (most : ℕ) (k : Levels) (sc : Script) (table : List Step) (code : List ℕ) (ss : List ℤ) (c : Core) (ms : List Mark) (es : List Entry) (ts : List Thread) (v : Views most sc table code c ms es ts) (i : ℕ) (within : i < c.count) where
   abbrev at_now : Place
   at_now = get_or c.threads i nil_place
 
@@ -113,7 +112,7 @@ module _ (most : ℕ) (k : Levels) (sc : Script) (table : List Step) (code : Lis
   state_now = state_of c ss es ts
 
   abbrev View : Thread → Type 0
-  View t = ThreadView (head_of_core c) (script_frames sc) (behind_thread sc i) table ms i at_now t
+  View t = ThreadView (head_of_core c) (script_frames sc) table ms i at_now t
 
   abbrev Says : Pace → Kind → ModelStatus → Type 0
   Says q kd r = status_by k table code ss i q kd c ms at_now step_now ≡ r
@@ -121,10 +120,10 @@ module _ (most : ℕ) (k : Levels) (sc : Script) (table : List Step) (code : Lis
   at_kind : (kd : Kind) (r : ModelStatus) → at_now.pace ≡ pace_at step_now.kind → step_now.kind ≡ kd → Says (pace_at kd) kd r → Says at_now.pace step_now.kind r
   at_kind kd r pace kind n = ap (λ (q : Pace). status_by k table code ss i q step_now.kind c ms at_now step_now) pace ∙ ap (λ (x : Kind). status_by k table code ss i (pace_at x) x c ms at_now step_now) kind ∙ n
 
-  stands_against : against_first table ms i c.threads c.head.threads ≡ against i ts
+  stands_against : against_first table ms i c.threads c.count ≡ against i ts
   stands_against =
       ap (against_first table ms i c.threads) (sym v.count)
-      ∙ against_is (head_of_core c) code table (script_frames sc) v.tabled ms (behind_thread sc) i c.threads ts (λ j lt. v.threads j (omega (arith, v.count)))
+      ∙ against_is (head_of_core c) code table (script_frames sc) v.tabled ms i c.threads ts (λ j lt. v.threads j (omega (arith, v.count)))
 
   status_case : (cd : Code) (pc : ModelPace) (os : List Open) → View (record { code = cd; pace = pc; inside = os }) → Says at_now.pace step_now.kind (status_at k sc state_now i cd pc os)
   status_case cd (idling n) os tv = ap (λ (q : Pace). status_by k table code ss i q step_now.kind c ms at_now step_now) tv.paced

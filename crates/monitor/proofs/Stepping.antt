@@ -16,11 +16,10 @@ use Rattle.codec.specs.Frames.{Frame}
 use Rattle.codec.specs.Frames.Frame.{if, else, end_if, while, end_while}
 use Rattle.script.specs.Trees.{flatten, script_frames, Valid}
 use Rattle.model.specs.Places.{Stands, Opened, flatten_inside, ValidInside}
-use Rattle.model.specs.Fitting.{behind_thread}
 use Rattle.model.proofs.Places.Skipping.{drop_next, past_lands}
-use Rattle.survey.specs.declared.table.Kind.{Kind}
-use Rattle.survey.specs.declared.table.Kind.TheVariants.{End, Skip, Assign, Put, If, Else, EndIf, While, EndWhile, With, EndWith}
-use Rattle.survey.specs.declared.table.Step.{Step}
+use Rattle.monitor.specs.declared.Kind.{Kind}
+use Rattle.monitor.specs.declared.Kind.TheVariants.{End, Skip, Assign, Put, If, Else, EndIf, While, EndWhile, With, EndWith}
+use Rattle.monitor.specs.declared.Step.{Step}
 use Rattle.monitor.specs.declared.Mark.{Mark}
 use Rattle.monitor.specs.declared.Cell.{Cell}
 use Rattle.monitor.specs.declared.Pace.{Pace}
@@ -29,8 +28,8 @@ use Rattle.monitor.specs.declared.Place.{Place}
 use Rattle.monitor.specs.declared.Entry.{Entry}
 use Rattle.monitor.specs.declared.Port.{Port}
 use Rattle.monitor.specs.declared.Core.{Core}
-use Rattle.monitor.specs.Flat.{nil_mark, nil_place, first_mark, pace_at, arrived, beyond, closing, opener_step, opened, branch_level, level_inside, guard_threads, value_at, level_at, cells_of, tracks_of, channels_of, cell_of, raised, head_of_core, TrackParts, stepped, after_turn, arrive_in, with_cells, with_channels, nil_port, added_port, added_entries, entry_of, channel_of, level_of_port, mem, state_of}
-use Rattle.survey.specs.Table.{step_at_place, bytes_of, Ways}
+use Rattle.monitor.specs.Table.{nil_mark, step_at_place, bytes_of, Ways}
+use Rattle.monitor.specs.Flat.{nil_place, first_mark, pace_at, arrived, beyond, closing, opener_step, opened, branch_level, level_inside, guard_threads, value_at, level_at, cells_of, tracks_of, channels_of, cell_of, raised, head_of_core, TrackParts, stepped, after_turn, arrive_in, with_cells, with_channels, nil_port, added_port, added_entries, entry_of, channel_of, level_of_port, mem, state_of}
 use Rattle.monitor.specs.Views.{openers, Leveled, spot, ThreadView, Views, HoldsState, size_of_port}
 use Rattle.monitor.proofs.Marks.{leveled_length, level_inside_is, openers_push, leveled_push, leveled_pop}
 use Rattle.monitor.proofs.Guards.{reads, guard_is}
@@ -94,7 +93,7 @@ module _ (most : ℕ) (k : Levels) (sc : Script) (table : List Step) (code : Lis
 
 -- One turn
 
-module _ (most : ℕ) (k : Levels) (sc : Script) (table : List Step) (code : List ℕ) (ss : List ℤ) (c : Core) (ms : List Mark) (es : List Entry) (ts : List Thread) (v : Views most sc table code c ms es ts) (fed : TrackParts c ss) (i : ℕ) (within : i < c.head.threads) where
+module _ (most : ℕ) (k : Levels) (sc : Script) (table : List Step) (code : List ℕ) (ss : List ℤ) (c : Core) (ms : List Mark) (es : List Entry) (ts : List Thread) (v : Views most sc table code c ms es ts) (fed : TrackParts c ss) (i : ℕ) (within : i < c.count) where
   abbrev at_now : Place
   at_now = get_or c.threads i nil_place
 
@@ -104,14 +103,11 @@ module _ (most : ℕ) (k : Levels) (sc : Script) (table : List Step) (code : Lis
   abbrev state_now : State
   state_now = state_of c ss es ts
 
-  abbrev behind : List Frame
-  behind = behind_thread sc i
-
   abbrev View : List Mark → Place → Thread → Type 0
-  View ns p t = ThreadView (head_of_core c) (script_frames sc) (behind_thread sc i) table ns i p t
+  View ns p t = ThreadView (head_of_core c) (script_frames sc) table ns i p t
 
   abbrev ViewOf : ℕ → Type 0
-  ViewOf j = ThreadView (head_of_core c) (script_frames sc) (behind_thread sc j) table ms j (get_or c.threads j nil_place) (get_or ts j ended)
+  ViewOf j = ThreadView (head_of_core c) (script_frames sc) table ms j (get_or c.threads j nil_place) (get_or ts j ended)
 
   abbrev Next : Pace → Kind → State → Type 0
   Next q kd s = HoldsState (suc most) c.turns sc table code ss (stepped k table code ss i q kd (mem c ms es) at_now step_now) s
@@ -122,7 +118,7 @@ module _ (most : ℕ) (k : Levels) (sc : Script) (table : List Step) (code : Lis
 
   -- An if of level l whose test is z.
   abbrev BranchTo : Bool → ℕ → State → Type 0
-  BranchTo z l s = HoldsState (suc most) c.turns sc table code ss (mem (arrive_in table i (with_cells c (raised k step_now.assigned l c.cells c.head.variables)) (cond z step_now.other (at_now.at + 1)) (at_now.depth + 1)) (opened i ms at_now l) es) s
+  BranchTo z l s = HoldsState (suc most) c.turns sc table code ss (mem (arrive_in table i (with_cells c (raised k step_now.assigned l c.cells c.variables)) (cond z step_now.other (at_now.at + 1)) (at_now.depth + 1)) (opened i ms at_now l) es) s
 
   -- A put on channel h.
   abbrev PutTo : ℕ → Entry → Bool → State → Type 0
@@ -149,10 +145,11 @@ module _ (most : ℕ) (k : Levels) (sc : Script) (table : List Step) (code : Lis
   at_idle_pace : (n : ℕ) (s : State) → at_now.pace ≡ Idling n → Next (Idling n) step_now.kind s → Next at_now.pace step_now.kind s
   at_idle_pace n s e h = let Q : Pace → Type 0 = λ q. Next q step_now.kind s in subst Q (sym e) h
 
-  arrive_view : (ns : List Mark) (p d : ℕ) (cd : Code) (os : List Open)
-      → drop p (script_frames sc) ≡ flatten cd (flatten_inside os behind) → Opened (script_frames sc) behind (openers ns (first_mark i) d) os → Leveled ns (first_mark i) d os
+  arrive_view : (ns : List Mark) (p d : ℕ) (cd : Code) (os : List Open) (rest : List Frame)
+      → drop p (script_frames sc) ≡ flatten cd (flatten_inside os rest) → Opened (script_frames sc) rest (openers ns (first_mark i) d) os → Leveled ns (first_mark i) d os
       → Valid (head_of_core c) (length os) cd → ValidInside (head_of_core c) os → d ≤ 16 → View ns (arrived table p d) (at_code cd os)
-  arrive_view ns p d cd os here opened leveled valid inside deep = record {
+  arrive_view ns p d cd os rest here opened leveled valid inside deep = record {
+    rest = rest;
     stands = record { stands = record { here = here; opened = opened }; idle = tt };
     leveled = leveled;
     paced = refl;
@@ -180,28 +177,28 @@ module _ (most : ℕ) (k : Levels) (sc : Script) (table : List Step) (code : Lis
   case_skip cd os tv =
       let here = tv.stands.stands.here in
       at_kind Skip _ tv.paced (reads (head_of_core c) code table (script_frames sc) v.tabled at_now.at _ here)
-      (moves _ (at_code cd os) (arrive_view ms (at_now.at + 1) at_now.depth cd os (next_place at_now.at _ here) tv.stands.stands.opened tv.leveled tv.valid.code tv.valid.inside tv.deep))
+      (moves _ (at_code cd os) (arrive_view ms (at_now.at + 1) at_now.depth cd os tv.rest (next_place at_now.at _ here) tv.stands.stands.opened tv.leveled tv.valid.code tv.valid.inside tv.deep))
 
   -- The end of a way: idle turns, then past the end.
-  close_now : (j : ℕ) (w : Bool) (l : ℕ) (a b n : Code) (os : List Open) → Stands (script_frames sc) behind (spot ms i at_now) done (in_branch l w a b n ∷ os)
+  close_now : (j : ℕ) (w : Bool) (l : ℕ) (a b n : Code) (os : List Open) (rest : List Frame) → Stands (script_frames sc) rest (spot ms i at_now) done (in_branch l w a b n ∷ os)
       → Leveled ms (first_mark i) at_now.depth (in_branch l w a b n ∷ os) → ValidInside (head_of_core c) (in_branch l w a b n ∷ os) → at_now.depth ≤ 16
       → HoldsState (suc most) c.turns sc table code ss (mem (closing table i j c at_now step_now) ms es) (set_thread state_now i (close_branch j (in_branch l w a b n) os n))
-  close_now zero w l a b n os st lv va deep =
-      moves _ (at_code n os) (arrive_view ms _ (at_now.depth - 1) n os (beyond_here most sc table code c ms es ts v i w l a b n os behind st.here)
-      (opened_pop (script_frames sc) behind ms (first_mark i) at_now.depth _ os st.opened) (leveled_pop ms (first_mark i) at_now.depth _ os lv) va.3 va.4 (omega arith))
-  close_now (suc j) w l a b n os st lv va deep =
+  close_now zero w l a b n os rest st lv va deep =
+      moves _ (at_code n os) (arrive_view ms _ (at_now.depth - 1) n os rest (beyond_here most sc table code c ms es ts v i w l a b n os rest st.here)
+      (opened_pop (script_frames sc) rest ms (first_mark i) at_now.depth _ os st.opened) (leveled_pop ms (first_mark i) at_now.depth _ os lv) va.3 va.4 (omega arith))
+  close_now (suc j) w l a b n os rest st lv va deep =
       let z : eqb (suc j) 0 ≡ false = ne_eqb (suc j) 0 (λ (q : suc j ≡ 0). omega arith) in
       let q : suc j - 1 ≡ j = omega arith in
       let G : Bool → Type 0 = λ t. HoldsState (suc most) c.turns sc table code ss (mem (cond t (turned c i c.cells c.channels (arrived table (beyond step_now.kind step_now.other at_now.at) (at_now.depth - 1))) (turned c i c.cells c.channels (record { at = at_now.at; depth = at_now.depth; pace = Idling (suc j - 1) }))) ms es) (set_thread state_now i (at_idle j (in_branch l w a b n ∷ os))) in
       subst G (sym z)
-      (moves _ (at_idle j (in_branch l w a b n ∷ os)) (record { stands = record { stands = st; idle = refl }; leveled = lv; paced = ap Idling q; idles = tt; valid = record { code = tt; inside = va }; deep = deep }))
+      (moves _ (at_idle j (in_branch l w a b n ∷ os)) (record { rest = rest; stands = record { stands = st; idle = refl }; leveled = lv; paced = ap Idling q; idles = tt; valid = record { code = tt; inside = va }; deep = deep }))
 
   case_idle : (cd : Code) (n l : ℕ) (w : Bool) (a b next : Code) (os : List Open) → View ms at_now (record { code = cd; pace = idling n; inside = in_branch l w a b next ∷ os })
       → Next at_now.pace step_now.kind (step_at k sc state_now i cd (idling n) (in_branch l w a b next ∷ os))
   unfolding step_at
   case_idle cd n l w a b next os tv =
-      let P : Code → Type 0 = λ x. Stands (script_frames sc) behind (spot ms i at_now) x (in_branch l w a b next ∷ os) in
-      at_idle_pace n _ tv.paced (close_now n w l a b next os (subst P tv.stands.idle tv.stands.stands) tv.leveled tv.valid.inside tv.deep)
+      let P : Code → Type 0 = λ x. Stands (script_frames sc) tv.rest (spot ms i at_now) x (in_branch l w a b next ∷ os) in
+      at_idle_pace n _ tv.paced (close_now n w l a b next os tv.rest (subst P tv.stands.idle tv.stands.stands) tv.leveled tv.valid.inside tv.deep)
 
   ways_now : (l : ℕ) (w : Bool) (a b n : Code) (os : List Open) (rest : List Frame) → Opened (script_frames sc) rest (openers ms (first_mark i) at_now.depth) (in_branch l w a b n ∷ os) → Ways (opener_step table ms (first_mark i) at_now.depth) a b
   ways_now l w a b n os rest o =
@@ -213,15 +210,15 @@ module _ (most : ℕ) (k : Levels) (sc : Script) (table : List Step) (code : Lis
   case_branch_end l true a b n os tv =
       let st = tv.stands.stands in
       let r = reads (head_of_core c) code table (script_frames sc) v.tabled at_now.at _ st.here in
-      let way = ways_now l true a b n os behind st.opened in
+      let way = ways_now l true a b n os tv.rest st.opened in
       let G : ℕ → Type 0 = λ j. HoldsState (suc most) c.turns sc table code ss (mem (closing table i j c at_now step_now) ms es) (set_thread state_now i (close_branch (lag true a b) (in_branch l true a b n) os n)) in
-      at_kind Else _ tv.paced r.0 (subst G (sym way.first) (close_now (lag true a b) true l a b n os st tv.leveled tv.valid.inside tv.deep))
+      at_kind Else _ tv.paced r.0 (subst G (sym way.first) (close_now (lag true a b) true l a b n os tv.rest st tv.leveled tv.valid.inside tv.deep))
   case_branch_end l false a b n os tv =
       let st = tv.stands.stands in
       let r = reads (head_of_core c) code table (script_frames sc) v.tabled at_now.at _ st.here in
-      let way = ways_now l false a b n os behind st.opened in
+      let way = ways_now l false a b n os tv.rest st.opened in
       let G : ℕ → Type 0 = λ j. HoldsState (suc most) c.turns sc table code ss (mem (closing table i j c at_now step_now) ms es) (set_thread state_now i (close_branch (lag false a b) (in_branch l false a b n) os n)) in
-      at_kind EndIf _ tv.paced r (subst G (sym way.second) (close_now (lag false a b) false l a b n os st tv.leveled tv.valid.inside tv.deep))
+      at_kind EndIf _ tv.paced r (subst G (sym way.second) (close_now (lag false a b) false l a b n os tv.rest st tv.leveled tv.valid.inside tv.deep))
 
   case_loop_end : (e : Expr) (b n : Code) (os : List Open) → View ms at_now (at_code done (in_loop e b n ∷ os)) → Next at_now.pace step_now.kind (step_at k sc state_now i done running (in_loop e b n ∷ os))
   unfolding step_at
@@ -230,8 +227,8 @@ module _ (most : ℕ) (k : Levels) (sc : Script) (table : List Step) (code : Lis
       let deep = tv.deep in
       let va = tv.valid.inside in
       at_kind EndWhile _ tv.paced (reads (head_of_core c) code table (script_frames sc) v.tabled at_now.at _ st.here)
-      (moves _ (at_code (loop e b n) os) (arrive_view ms _ (at_now.depth - 1) (loop e b n) os (opener_loop (script_frames sc) behind ms (first_mark i) at_now.depth e b n os st.opened)
-      (opened_pop (script_frames sc) behind ms (first_mark i) at_now.depth _ os st.opened) (leveled_pop ms (first_mark i) at_now.depth _ os tv.leveled) (va.0, va.1, va.2, va.3) va.4 (omega arith)))
+      (moves _ (at_code (loop e b n) os) (arrive_view ms _ (at_now.depth - 1) (loop e b n) os tv.rest (opener_loop (script_frames sc) tv.rest ms (first_mark i) at_now.depth e b n os st.opened)
+      (opened_pop (script_frames sc) tv.rest ms (first_mark i) at_now.depth _ os st.opened) (leveled_pop ms (first_mark i) at_now.depth _ os tv.leveled) (va.0, va.1, va.2, va.3) va.4 (omega arith)))
 
   case_lock_end : (m : ℕ) (n : Code) (os : List Open) → View ms at_now (at_code done (in_lock m n ∷ os)) → Next at_now.pace step_now.kind (step_at k sc state_now i done running (in_lock m n ∷ os))
   unfolding step_at
@@ -240,8 +237,8 @@ module _ (most : ℕ) (k : Levels) (sc : Script) (table : List Step) (code : Lis
       let deep = tv.deep in
       let va = tv.valid.inside in
       at_kind EndWith _ tv.paced (reads (head_of_core c) code table (script_frames sc) v.tabled at_now.at _ st.here)
-      (moves _ (at_code n os) (arrive_view ms _ (at_now.depth - 1) n os (next_place at_now.at _ st.here)
-      (opened_pop (script_frames sc) behind ms (first_mark i) at_now.depth _ os st.opened) (leveled_pop ms (first_mark i) at_now.depth _ os tv.leveled) va.2 va.3 (omega arith)))
+      (moves _ (at_code n os) (arrive_view ms _ (at_now.depth - 1) n os tv.rest (next_place at_now.at _ st.here)
+      (opened_pop (script_frames sc) tv.rest ms (first_mark i) at_now.depth _ os st.opened) (leveled_pop ms (first_mark i) at_now.depth _ os tv.leveled) va.2 va.3 (omega arith)))
 
   value_here : (bytes : List ℕ) (e : Expr) → (decode 0 bytes).ops ≡ e → value_at c ss bytes ≡ value_of k sc state_now e
   value_here = value_is most k sc table code ss c ms es ts v
@@ -256,19 +253,19 @@ module _ (most : ℕ) (k : Levels) (sc : Script) (table : List Step) (code : Lis
       let d = v.declares in
       let few = d.few_variables in
       let r = reads (head_of_core c) code table (script_frames sc) v.tabled at_now.at _ st.here in
-      let below = ltb→lt x c.head.variables tv.valid.code.0 in
+      let below = ltb→lt x c.variables tv.valid.code.0 in
       let all : (j : ℕ) → j < length ts → ViewOf j = λ j lt. v.threads j (omega (arith, v.count)) in
       let num : step_now.number ≡ x = r.1 in
-      let guarded : guard_threads k table ms step_now.number c.threads c.head.threads ≡ guard k x ts 0 =
-      (λ j. guard_threads k table ms (num j) c.threads (sym v.count j)) ∙ guard_is k (head_of_core c) code table (script_frames sc) v.tabled x (omega arith) (behind_thread sc) ms c.threads ts all in
-      let cell : Cell = record { value = value_at c ss (bytes_of code step_now); level = k.join (level_at k c (bytes_of code step_now)) (guard_threads k table ms step_now.number c.threads c.head.threads) } in
+      let guarded : guard_threads k table ms step_now.number c.threads c.count ≡ guard k x ts 0 =
+      (λ j. guard_threads k table ms (num j) c.threads (sym v.count j)) ∙ guard_is k (head_of_core c) code table (script_frames sc) v.tabled x (omega arith) ms c.threads ts all in
+      let cell : Cell = record { value = value_at c ss (bytes_of code step_now); level = k.join (level_at k c (bytes_of code step_now)) (guard_threads k table ms step_now.number c.threads c.count) } in
       let new : ModelCell = record { value = value_of k sc state_now e; level = k.join (level_of k sc state_now e) (guard k x ts 0) } in
       let same : cell_of cell ≡ new = λ j. record { value = value_here _ e r.2.ops j; level = k.join (level_here _ e r.2.ops j) (guarded j) } in
-      let cells : map cell_of (take c.head.variables (set c.cells step_now.number cell)) ≡ set (cells_of c) x new =
-      cells_set c.head.variables c.cells step_now.number cell ∙ (λ j. set (cells_of c) (num j) (same j)) in
+      let cells : map cell_of (take c.variables (set c.cells step_now.number cell)) ≡ set (cells_of c) x new =
+      cells_set c.variables c.cells step_now.number cell ∙ (λ j. set (cells_of c) (num j) (same j)) in
       at_kind Assign _ tv.paced r.0
       (plain (set c.cells step_now.number cell) ms _ (at_code cd os) _ (length-set c.cells step_now.number cell ∙ v.cells) refl (others_none i ms)
-      (arrive_view ms (at_now.at + 1) at_now.depth cd os (next_place at_now.at _ st.here) st.opened tv.leveled tv.valid.code.2 tv.valid.inside tv.deep)
+      (arrive_view ms (at_now.at + 1) at_now.depth cd os tv.rest (next_place at_now.at _ st.here) st.opened tv.leveled tv.valid.code.2 tv.valid.inside tv.deep)
       (ap (λ (cs : List ModelCell). set_thread (set_cells state_now cs) i (at_code cd os)) (sym cells)))
 
   -- Into a block
@@ -281,17 +278,17 @@ module _ (most : ℕ) (k : Levels) (sc : Script) (table : List Step) (code : Lis
       let room = v.room in
       (omega arith, omega arith)
 
-  enter_view : (p l : ℕ) (o : Open) (cd : Code) (os : List Open)
-      → drop p (script_frames sc) ≡ flatten cd (flatten_inside (o ∷ os) behind)
-      → Opened (script_frames sc) behind (at_now.at ∷ openers ms (first_mark i) at_now.depth) (o ∷ os)
+  enter_view : (p l : ℕ) (o : Open) (cd : Code) (os : List Open) (rest : List Frame)
+      → drop p (script_frames sc) ≡ flatten cd (flatten_inside (o ∷ os) rest)
+      → Opened (script_frames sc) rest (at_now.at ∷ openers ms (first_mark i) at_now.depth) (o ∷ os)
       → l ≡ context (o ∷ os) → Leveled ms (first_mark i) at_now.depth os → T (ltb (length os) 16)
       → Valid (head_of_core c) (suc (length os)) cd → ValidInside (head_of_core c) (o ∷ os)
       → View (opened i ms at_now l) (arrived table p (at_now.depth + 1)) (at_code cd (o ∷ os))
-  enter_view p l o cd os here op lev leveled t valid inside =
+  enter_view p l o cd os rest here op lev leveled t valid inside =
       let room = room_here os leveled t in
       let mark : Mark = record { opener = at_now.at; level = l } in
-      let P : List ℕ → Type 0 = λ ps. Opened (script_frames sc) behind ps (o ∷ os) in
-      arrive_view (opened i ms at_now l) p (at_now.depth + 1) cd (o ∷ os) here
+      let P : List ℕ → Type 0 = λ ps. Opened (script_frames sc) rest ps (o ∷ os) in
+      arrive_view (opened i ms at_now l) p (at_now.depth + 1) cd (o ∷ os) rest here
       (subst P (sym (openers_push ms (first_mark i) at_now.depth mark room.1)) op)
       (leveled_push ms (first_mark i) at_now.depth mark o os room.1 lev leveled) valid inside (omega (arith, room.0))
 
@@ -310,7 +307,7 @@ module _ (most : ℕ) (k : Levels) (sc : Script) (table : List Step) (code : Lis
       let r = reads (head_of_core c) code table (script_frames sc) v.tabled at_now.at _ st.here in
       at_kind With _ tv.paced r.0
       (entered c.cells (at_now.at + 1) _ (at_code b (in_lock mk cd ∷ os)) _ os tv.leveled va.0 v.cells
-      (enter_view (at_now.at + 1) _ (in_lock mk cd) b os (next_place at_now.at _ st.here) ((e, b, st.here), st.opened)
+      (enter_view (at_now.at + 1) _ (in_lock mk cd) b os tv.rest (next_place at_now.at _ st.here) ((e, b, st.here), st.opened)
       (level_inside_is ms (first_mark i) at_now.depth os tv.leveled) tv.leveled va.0 va.3 (va.0, va.1, va.4, tv.valid.inside))
       refl)
 
@@ -321,13 +318,13 @@ module _ (most : ℕ) (k : Levels) (sc : Script) (table : List Step) (code : Lis
       let va = tv.valid.code in
       let r = reads (head_of_core c) code table (script_frames sc) v.tabled at_now.at _ st.here in
       let G : ℤ → Type 0 = λ z. LoopTo (is_zero z) (set_thread state_now i (cond (is_zero (value_of k sc state_now e)) (at_code cd os) (at_code b (in_loop e b cd ∷ os)))) in
-      let past-here : drop step_now.other (script_frames sc) ≡ flatten cd (flatten_inside os behind) =
+      let past-here : drop step_now.other (script_frames sc) ≡ flatten cd (flatten_inside os tv.rest) =
       ap (λ (n : ℕ). drop n (script_frames sc)) r.1 ∙ past_lands at_now.at (script_frames sc) (while e) end_while b _ refl st.here in
       at_kind While _ tv.paced r.0
       (subst G (sym (value_here _ e r.2.ops)) (pick_loop (λ z. set_thread state_now i (cond z (at_code cd os) (at_code b (in_loop e b cd ∷ os)))) (is_zero (value_of k sc state_now e))
-      (moves _ (at_code cd os) (arrive_view ms step_now.other at_now.depth cd os past-here st.opened tv.leveled va.3 tv.valid.inside tv.deep))
+      (moves _ (at_code cd os) (arrive_view ms step_now.other at_now.depth cd os tv.rest past-here st.opened tv.leveled va.3 tv.valid.inside tv.deep))
       (entered c.cells (at_now.at + 1) (level_inside ms (first_mark i) at_now.depth) (at_code b (in_loop e b cd ∷ os)) _ os tv.leveled va.0 v.cells
-      (enter_view (at_now.at + 1) _ (in_loop e b cd) b os (next_place at_now.at _ st.here) (st.here, st.opened)
+      (enter_view (at_now.at + 1) _ (in_loop e b cd) b os tv.rest (next_place at_now.at _ st.here) (st.here, st.opened)
       (level_inside_is ms (first_mark i) at_now.depth os tv.leveled) tv.leveled va.0 va.2 (va.0, va.1, va.2, va.3, tv.valid.inside))
       refl)))
 
@@ -340,24 +337,24 @@ module _ (most : ℕ) (k : Levels) (sc : Script) (table : List Step) (code : Lis
       let r = reads (head_of_core c) code table (script_frames sc) v.tabled at_now.at _ st.here in
       let way = v.tabled.ways at_now.at e a b cd _ st.here in
       let l = k.join (context os) (level_of k sc state_now e) in
-      let cs = raised k step_now.assigned l c.cells c.head.variables in
+      let cs = raised k step_now.assigned l c.cells c.variables in
       let marked : ℕ → Bool = λ x. assigns x a || assigns x b in
       let level : branch_level k code i c ms at_now step_now ≡ l = λ j. k.join (level_inside_is ms (first_mark i) at_now.depth os tv.leveled j) (level_here _ e r.2.ops j) in
-      let raises : map cell_of (take c.head.variables cs) ≡ raise k marked l 0 (cells_of c) =
-      raised_is k step_now.assigned l marked c.cells c.head.variables (omega (arith, v.cells)) (λ x lt. way.assigned x (omega arith)) in
-      let long : length cs ≡ 64 = raised_length k step_now.assigned l c.cells c.head.variables ∙ v.cells in
+      let raises : map cell_of (take c.variables cs) ≡ raise k marked l 0 (cells_of c) =
+      raised_is k step_now.assigned l marked c.cells c.variables (omega (arith, v.cells)) (λ x lt. way.assigned x (omega arith)) in
+      let long : length cs ≡ 64 = raised_length k step_now.assigned l c.cells c.variables ∙ v.cells in
       let target : Bool → State = λ z. set_thread (set_cells state_now (raise k marked l 0 (cells_of c))) i (at_code (cond (not z) a b) (in_branch l (not z) a b cd ∷ os)) in
       let F : ℕ → Type 0 = λ y. BranchTo (is_zero (value_at c ss (bytes_of code step_now))) y (target (is_zero (value_of k sc state_now e))) in
       let G : ℤ → Type 0 = λ z. BranchTo (is_zero z) l (target (is_zero (value_of k sc state_now e))) in
-      let else-here : drop step_now.other (script_frames sc) ≡ flatten b (flatten_inside (in_branch l false a b cd ∷ os) behind) =
+      let else-here : drop step_now.other (script_frames sc) ≡ flatten b (flatten_inside (in_branch l false a b cd ∷ os) tv.rest) =
       ap (λ (n : ℕ). drop n (script_frames sc)) r.1 ∙ past_lands at_now.at (script_frames sc) (if e) else a _ refl st.here in
       at_kind If _ tv.paced r.0
       (subst F (sym level) (subst G (sym (value_here _ e r.2.ops)) (pick_way l target (is_zero (value_of k sc state_now e))
       (entered cs step_now.other l (at_code b (in_branch l false a b cd ∷ os)) _ os tv.leveled va.0 long
-      (enter_view step_now.other l (in_branch l false a b cd) b os else-here ((e, st.here), st.opened) refl tv.leveled va.0 va.3 (va.0, va.2, va.3, va.4, tv.valid.inside))
+      (enter_view step_now.other l (in_branch l false a b cd) b os tv.rest else-here ((e, st.here), st.opened) refl tv.leveled va.0 va.3 (va.0, va.2, va.3, va.4, tv.valid.inside))
       (ap (λ (x : List ModelCell). set_thread (set_cells state_now x) i (at_code b (in_branch l false a b cd ∷ os))) (sym raises)))
       (entered cs (at_now.at + 1) l (at_code a (in_branch l true a b cd ∷ os)) _ os tv.leveled va.0 long
-      (enter_view (at_now.at + 1) l (in_branch l true a b cd) a os (next_place at_now.at _ st.here) ((e, st.here), st.opened) refl tv.leveled va.0 va.2 (va.0, va.2, va.3, va.4, tv.valid.inside))
+      (enter_view (at_now.at + 1) l (in_branch l true a b cd) a os tv.rest (next_place at_now.at _ st.here) ((e, st.here), st.opened) refl tv.leveled va.0 va.2 (va.0, va.2, va.3, va.4, tv.valid.inside))
       (ap (λ (x : List ModelCell). set_thread (set_cells state_now x) i (at_code a (in_branch l true a b cd ∷ os))) (sym raises))))))
 
   case_done : View ms at_now (at_code done []) → Next at_now.pace step_now.kind (step_at k sc state_now i done running [])
@@ -379,8 +376,8 @@ module _ (most : ℕ) (k : Levels) (sc : Script) (table : List Step) (code : Lis
       let few = d.few_channels in
       let long = v.ports in
       let r = reads (head_of_core c) code table (script_frames sc) v.tabled at_now.at _ st.here in
-      let below : h < c.head.channels = ltb→lt h c.head.channels tv.valid.code.0 in
-      let n : ℕ = c.head.channels in
+      let below : h < c.nchannels = ltb→lt h c.nchannels tv.valid.code.0 in
+      let n : ℕ = c.nchannels in
       let q : Port = get_or c.channels h nil_port in
       let inside : h < length (take n c.channels) = simp length-take (omega arith) in
       let port : get_or (take n c.channels) h nil_port ≡ q = get_or-take n c.channels h nil_port below in
@@ -399,7 +396,7 @@ module _ (most : ℕ) (k : Levels) (sc : Script) (table : List Step) (code : Lis
       let A : ℕ → Type 0 = λ x. PutTo x (entry_to (get_or c.channels x nil_port).level) (k.flows (level_inside ms (first_mark i) at_now.depth) (get_or c.channels x nil_port).level) (step_at k sc state_now i (put h e cd) running os) in
       let B : State → Type 0 = λ s. PutTo h (entry_to q.level) (k.flows (level_inside ms (first_mark i) at_now.depth) q.level) s in
       let view : View ms (arrived table (at_now.at + 1) at_now.depth) t =
-      arrive_view ms (at_now.at + 1) at_now.depth cd os (next_place at_now.at _ st.here) st.opened tv.leveled tv.valid.code.2 tv.valid.inside tv.deep in
+      arrive_view ms (at_now.at + 1) at_now.depth cd os tv.rest (next_place at_now.at _ st.here) st.opened tv.leveled tv.valid.code.2 tv.valid.inside tv.deep in
       let chs = channels_added n c.channels h (entry_to q.level) es most (omega arith) below v.parts v.apart in
       at_kind Put _ tv.paced r.0
       (subst A (sym r.1) (subst B (sym same)
@@ -437,7 +434,7 @@ module _ (most : ℕ) (k : Levels) (sc : Script) (table : List Step) (code : Lis
 
 -- The turn is counted.
 abbrev pub with_turns : Core → ℕ → Core
-with_turns c n = record { head = c.head; cells = c.cells; threads = c.threads; tracks = c.tracks; channels = c.channels; turns = n }
+with_turns c n = record { variables = c.variables; cells = c.cells; count = c.count; threads = c.threads; ntracks = c.ntracks; tracks = c.tracks; nchannels = c.nchannels; channels = c.channels; turns = n }
 
 pub tick : (given : ℕ) (sc : Script) (table : List Step) (code : List ℕ) (ss : List ℤ) (c : Core) (ms : List Mark) (es : List Entry) (s : State) → given < 1000000 → HoldsState (suc given) given sc table code ss (mem c ms es) s
     → HoldsState (given + 1) (given + 1) sc table code ss (mem (with_turns c (given + 1)) ms es) (one_more s)
@@ -450,5 +447,5 @@ tick given sc table code ss c ms es s lt h =
       is = ap one_more h.is ∙ ap (λ (z : ℕ). record { cells = cells_of c; threads = h.ts; tracks = tracks_of c ss; channels = channels_of c es; turns = z }) (ap suc h.counted ∙ n);
       counted = refl;
       fed = h.fed;
-      views = record { tabled = v.tabled; declares = record { head = v.declares.head; track_levels = v.declares.track_levels; track_sizes = v.declares.track_sizes; channel_levels = v.declares.channel_levels; channel_sizes = v.declares.channel_sizes; few = v.declares.few; few_variables = v.declares.few_variables; few_tracks = v.declares.few_tracks; few_channels = v.declares.few_channels }; cells = v.cells; places = v.places; ports = v.ports; room = v.room; count = v.count; turns = omega arith; parts = v.parts; apart = v.apart; threads = v.threads };
+      views = record { tabled = v.tabled; declares = record { variables = v.declares.variables; track_levels = v.declares.track_levels; channel_levels = v.declares.channel_levels; channel_sizes = v.declares.channel_sizes; few = v.declares.few; few_variables = v.declares.few_variables; few_tracks = v.declares.few_tracks; few_channels = v.declares.few_channels }; cells = v.cells; places = v.places; ports = v.ports; room = v.room; count = v.count; turns = omega arith; parts = v.parts; apart = v.apart; threads = v.threads };
     })

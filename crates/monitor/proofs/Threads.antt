@@ -6,25 +6,26 @@ use Rattle.script.specs.Code.{Script}
 use Rattle.codec.specs.Frames.{Head, Frame}
 use Rattle.script.specs.Trees.{script_frames}
 use Rattle.model.specs.Places.{StandsAt}
-use Rattle.model.specs.Fitting.{behind_thread}
-use Rattle.survey.specs.declared.table.Step.{Step}
+use Rattle.monitor.specs.declared.Step.{Step}
 use Rattle.monitor.specs.declared.Mark.{Mark}
 use Rattle.monitor.specs.declared.Cell.{Cell}
 use Rattle.monitor.specs.declared.Port.{Port}
 use Rattle.monitor.specs.declared.Place.{Place}
 use Rattle.monitor.specs.declared.Entry.{Entry}
 use Rattle.monitor.specs.declared.Core.{Core}
-use Rattle.monitor.specs.Flat.{nil_mark, nil_place, nil_port, first_mark, head_of_core, level_of_port, Part}
+use Rattle.monitor.specs.Table.{nil_mark}
+use Rattle.monitor.specs.Flat.{nil_place, nil_port, first_mark, head_of_core, level_of_port, Part}
 use Rattle.monitor.specs.Views.{openers, ThreadView, size_of_port, Apart, Views}
 use Rattle.monitor.proofs.Marks.{Same, openers_same, leveled_same}
 
 -- A thread whose marks are as they were.
-pub thread_kept : (h : Head) (fs r : List Frame) (table : List Step) (ms ns : List Mark) (j : ℕ) (p : Place) (t : Thread) → Same ms ns (first_mark j) 16 → ThreadView h fs r table ms j p t → ThreadView h fs r table ns j p t
-thread_kept h fs r table ms ns j p t same v =
+pub thread_kept : (h : Head) (fs : List Frame) (table : List Step) (ms ns : List Mark) (j : ℕ) (p : Place) (t : Thread) → Same ms ns (first_mark j) 16 → ThreadView h fs table ms j p t → ThreadView h fs table ns j p t
+thread_kept h fs table ms ns j p t same v =
     let deep = v.deep in
     let near : Same ms ns (first_mark j) p.depth = λ e l. same e (omega arith) in
-    let P : List ℕ → Type 0 = λ os. StandsAt fs r (record { place = p.at; openers = os }) t in
+    let P : List ℕ → Type 0 = λ os. StandsAt fs v.rest (record { place = p.at; openers = os }) t in
     record {
+      rest = v.rest;
       stands = subst P (sym (openers_same ms ns (first_mark j) p.depth near)) v.stands;
       leveled = leveled_same ms ns (first_mark j) p.depth t.inside near v.leveled;
       paced = v.paced;
@@ -45,14 +46,14 @@ others_set i d ms v lt j ne e l = get_or-set_other ms (i * 16 + d) (j * 16 + e) 
 
 -- A core with other cells, other channels and a new place of thread i.
 abbrev pub turned : Core → ℕ → List Cell → List Port → Place → Core
-turned c i cs qs p = record { head = c.head; cells = cs; threads = set c.threads i p; tracks = c.tracks; channels = qs; turns = c.turns }
+turned c i cs qs p = record { variables = c.variables; cells = cs; count = c.count; threads = set c.threads i p; ntracks = c.ntracks; tracks = c.tracks; nchannels = c.nchannels; channels = qs; turns = c.turns }
 
 pub record Ports (most : ℕ) (c : Core) (qs : List Port) (es : List Entry) : Type 0 where
   pub long : length qs ≡ 8
-  pub levels : map level_of_port (take c.head.channels qs) ≡ map level_of_port (take c.head.channels c.channels)
-  pub sizes : map size_of_port (take c.head.channels qs) ≡ map size_of_port (take c.head.channels c.channels)
-  pub parts : (h : ℕ) → h < c.head.channels → Part (get_or qs h nil_port) most es
-  pub apart : (h j : ℕ) → h < c.head.channels → j < c.head.channels → h ≢ j → Apart (get_or qs h nil_port) (get_or qs j nil_port)
+  pub levels : map level_of_port (take c.nchannels qs) ≡ map level_of_port (take c.nchannels c.channels)
+  pub sizes : map size_of_port (take c.nchannels qs) ≡ map size_of_port (take c.nchannels c.channels)
+  pub parts : (h : ℕ) → h < c.nchannels → Part (get_or qs h nil_port) most es
+  pub apart : (h j : ℕ) → h < c.nchannels → j < c.nchannels → h ≢ j → Apart (get_or qs h nil_port) (get_or qs j nil_port)
 
 module _ (most : ℕ) (sc : Script) (table : List Step) (code : List ℕ) (c : Core) (ms : List Mark) (es : List Entry) (ts : List Thread) (v : Views most sc table code c ms es ts) where
   more : (q : Port) → Part q most es → Part q (suc most) es
@@ -64,10 +65,10 @@ module _ (most : ℕ) (sc : Script) (table : List Step) (code : List ℕ) (c : C
   pub views_later : Views (suc most) sc table code c ms es ts
   views_later = record { tabled = v.tabled; declares = v.declares; cells = v.cells; places = v.places; ports = v.ports; room = v.room; count = v.count; turns = v.turns; parts = ports_kept.parts; apart = v.apart; threads = v.threads }
 
-module _ (most : ℕ) (sc : Script) (table : List Step) (code : List ℕ) (c : Core) (ms : List Mark) (es : List Entry) (ts : List Thread) (v : Views most sc table code c ms es ts) (i : ℕ) (within : i < c.head.threads) where
+module _ (most : ℕ) (sc : Script) (table : List Step) (code : List ℕ) (c : Core) (ms : List Mark) (es : List Entry) (ts : List Thread) (v : Views most sc table code c ms es ts) (i : ℕ) (within : i < c.count) where
   pub views_next : (cs : List Cell) (qs : List Port) (ns : List Mark) (fs : List Entry) (p : Place) (t : Thread)
       → length cs ≡ 64 → Ports (suc most) c qs fs → length ns ≡ length ms → Others i ms ns
-      → ThreadView (head_of_core c) (script_frames sc) (behind_thread sc i) table ns i p t
+      → ThreadView (head_of_core c) (script_frames sc) table ns i p t
       → Views (suc most) sc table code (turned c i cs qs p) ns fs (set ts i t)
   views_next cs qs ns fs p t long ports same others tv =
       let d = v.declares in
@@ -77,9 +78,8 @@ module _ (most : ℕ) (sc : Script) (table : List Step) (code : List ℕ) (c : C
       record {
         tabled = v.tabled;
         declares = record {
-          head = d.head;
+          variables = d.variables;
           track_levels = d.track_levels;
-          track_sizes = d.track_sizes;
           channel_levels = d.channel_levels ∙ sym ports.levels;
           channel_sizes = d.channel_sizes ∙ sym ports.sizes;
           few = d.few;
@@ -98,13 +98,13 @@ module _ (most : ℕ) (sc : Script) (table : List Step) (code : List ℕ) (c : C
         threads = λ j lt. ⊎_elim
             (λ (e : j ≡ i).
             let few = d.few in
-            let P : Place → Type 0 = λ x. ThreadView (head_of_core c) (script_frames sc) (behind_thread sc i) table ns i x t in
-            let Q : Thread → Type 0 = λ u. ThreadView (head_of_core c) (script_frames sc) (behind_thread sc i) table ns i (get_or (set c.threads i p) i nil_place) u in
-            let R : ℕ → Type 0 = λ x. ThreadView (head_of_core c) (script_frames sc) (behind_thread sc x) table ns x (get_or (set c.threads i p) x nil_place) (get_or (set ts i t) x ended) in
+            let P : Place → Type 0 = λ x. ThreadView (head_of_core c) (script_frames sc) table ns i x t in
+            let Q : Thread → Type 0 = λ u. ThreadView (head_of_core c) (script_frames sc) table ns i (get_or (set c.threads i p) i nil_place) u in
+            let R : ℕ → Type 0 = λ x. ThreadView (head_of_core c) (script_frames sc) table ns x (get_or (set c.threads i p) x nil_place) (get_or (set ts i t) x ended) in
             subst R (sym e) (subst Q (sym (get_or-set_same ts i t ended (omega arith))) (subst P (sym (get_or-set_same c.threads i p nil_place (omega arith))) tv)))
             (λ (ne : j ≢ i).
-            let P : Place → Type 0 = λ x. ThreadView (head_of_core c) (script_frames sc) (behind_thread sc j) table ns j x (get_or ts j ended) in
-            let Q : Thread → Type 0 = λ u. ThreadView (head_of_core c) (script_frames sc) (behind_thread sc j) table ns j (get_or (set c.threads i p) j nil_place) u in
-            subst Q (sym (get_or-set_other ts i j t ended ne)) (subst P (sym (get_or-set_other c.threads i j p nil_place ne)) (thread_kept (head_of_core c) (script_frames sc) (behind_thread sc j) table ms ns j _ _ (others j ne) (v.threads j lt))))
+            let P : Place → Type 0 = λ x. ThreadView (head_of_core c) (script_frames sc) table ns j x (get_or ts j ended) in
+            let Q : Thread → Type 0 = λ u. ThreadView (head_of_core c) (script_frames sc) table ns j (get_or (set c.threads i p) j nil_place) u in
+            subst Q (sym (get_or-set_other ts i j t ended ne)) (subst P (sym (get_or-set_other c.threads i j p nil_place ne)) (thread_kept (head_of_core c) (script_frames sc) table ms ns j _ _ (others j ne) (v.threads j lt))))
             (cases_eq j i);
       }

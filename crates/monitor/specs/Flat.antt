@@ -3,17 +3,16 @@ use Rattle.codec.specs.declared.expressions.Op.{Op}
 use Rattle.codec.specs.Expressions.{decode}
 use Rattle.codec.specs.Operations.{op_of}
 use Rattle.monitor.specs.Operations.{made}
-use Rattle.std.specs.Prelude.{ℕ, zero, suc, ◌+◌, ◌-◌, ◌*◌, ◌<◌, ◌≤◌, Bool, false, cond, not, ltb, List, [], map, length, get_or, take, drop, ℤ, pos, ◌==◌, nat_lt, slice_index, slice_index_or, slice_set}
+use Rattle.std.specs.Prelude.{ℕ, zero, suc, ◌+◌, ◌-◌, ◌*◌, ◌<◌, ◌≤◌, Bool, cond, not, ltb, List, [], map, length, get_or, take, drop, ℤ, pos, ◌==◌, nat_lt, slice_index, slice_index_or, slice_set}
 use Rattle.lattice.specs.Levels.{Levels}
 use Rattle.model.specs.Values.{blank, eval, top, joined, is_zero, Cell as ModelCell}
 use Rattle.model.specs.Threads.{Thread}
 use Rattle.model.specs.Machine.{Channel, State, Entry as ModelEntry}
 use Rattle.codec.specs.Frames.{Head}
-use Rattle.codec.specs.Shapes.{head_of}
 use Rattle.monitor.specs.declared.stack.Stack.{Stack}
-use Rattle.survey.specs.declared.table.Kind.{Kind}
-use Rattle.survey.specs.declared.table.Kind.TheVariants.{Other, Begin, End, Skip, Assign, Put, If, Else, EndIf, While, EndWhile, With, EndWith}
-use Rattle.survey.specs.declared.table.Step.{Step}
+use Rattle.monitor.specs.declared.Kind.{Kind}
+use Rattle.monitor.specs.declared.Kind.TheVariants.{Other, End, Skip, Assign, Put, If, Else, EndIf, While, EndWhile, With, EndWith}
+use Rattle.monitor.specs.declared.Step.{Step}
 use Rattle.monitor.specs.declared.Mark.{Mark}
 use Rattle.monitor.specs.declared.Cell.{Cell}
 use Rattle.monitor.specs.declared.Pace.{Pace}
@@ -23,14 +22,7 @@ use Rattle.monitor.specs.declared.Port.{Port}
 use Rattle.monitor.specs.declared.Turn.{Turn}
 use Rattle.monitor.specs.declared.Entry.{Entry}
 use Rattle.monitor.specs.declared.Core.{Core}
-use Rattle.monitor.specs.declared.verdicts.Verdict.{Verdict}
-use Rattle.monitor.specs.Verdicts.{left_by, putting}
-use Rattle.survey.specs.Stretches.{has_bit}
-use Rattle.survey.specs.Table.{step_at_place, bytes_of, Good}
-
--- What is read past the marks.
-abbrev pub nil_mark : Mark
-nil_mark = record { opener = 0; level = 0 }
+use Rattle.monitor.specs.Table.{nil_mark, step_at_place, has_bit, bytes_of, Good}
 
 -- What is read past the cells.
 abbrev pub nil_cell : Cell
@@ -44,10 +36,6 @@ nil_place = record { at = 0; depth = 0; pace = Running }
 abbrev pub nil_port : Port
 nil_port = record { level = 0; start = 0; size = 0; count = 0; missed = 0 }
 
--- What is read past the entries.
-abbrev pub nil_entry : Entry
-nil_entry = record { turn = 0; thread = 0; mark = false; value = pos 0 }
-
 -- The state that memory stands for
 
 -- A variable.
@@ -56,7 +44,7 @@ cell_of c = record { value = c.value; level = c.level }
 
 -- The variables that the script declares.
 abbrev pub cells_of : Core → List ModelCell
-cells_of c = map cell_of (take c.head.variables c.cells)
+cells_of c = map cell_of (take c.variables c.cells)
 
 -- What was fed to a track: the first samples of its part.
 abbrev pub track_of : List ℤ → Port → List ℤ
@@ -64,7 +52,7 @@ track_of ss p = take p.count (drop p.start ss)
 
 -- What was fed to each track.
 abbrev pub tracks_of : Core → List ℤ → List (List ℤ)
-tracks_of c ss = map (track_of ss) (take c.head.tracks c.tracks)
+tracks_of c ss = map (track_of ss) (take c.ntracks c.tracks)
 
 -- The level of a track or a channel.
 abbrev pub level_of_port : Port → ℕ
@@ -72,7 +60,7 @@ level_of_port p = p.level
 
 -- The levels of the tracks.
 abbrev pub track_levels_of : Core → List ℕ
-track_levels_of c = map level_of_port (take c.head.tracks c.tracks)
+track_levels_of c = map level_of_port (take c.ntracks c.tracks)
 
 -- An entry of a channel.
 abbrev pub entry_of : Entry → ModelEntry
@@ -84,7 +72,7 @@ channel_of es p = record { entries = map entry_of (take p.count (drop p.start es
 
 -- The channels.
 abbrev pub channels_of : Core → List Entry → List Channel
-channels_of c es = map (channel_of es) (take c.head.channels c.channels)
+channels_of c es = map (channel_of es) (take c.nchannels c.channels)
 
 -- The state: all of it is read from memory but the threads.
 abbrev pub state_of : Core → List ℤ → List Entry → List Thread → State
@@ -92,7 +80,7 @@ state_of c ss es ts = record { cells = cells_of c; threads = ts; tracks = tracks
 
 -- Each track's part lies in the samples.
 abbrev pub TrackParts : Core → List ℤ → Type 0
-TrackParts c ss = (t : ℕ) → t < c.head.tracks → ((get_or c.tracks t nil_port).start + (get_or c.tracks t nil_port).count ≤ length ss) × ((get_or c.tracks t nil_port).count ≤ 2048)
+TrackParts c ss = (t : ℕ) → t < c.ntracks → ((get_or c.tracks t nil_port).start + (get_or c.tracks t nil_port).count ≤ length ss) × ((get_or c.tracks t nil_port).count ≤ 2048)
 
 -- Expressions
 
@@ -116,9 +104,9 @@ track_level c t = slice_index (track_levels_of c) t
 abbrev pub level_at : Levels → Core → List ℕ → ℕ
 level_at k c bytes = joined k (cell_level c) (track_level c) (decode 0 bytes).ops 0
 
--- The header that a run was made of.
+-- The head that a core goes by: how many variables, tracks and channels an expression may name.
 abbrev pub head_of_core : Core → Head
-head_of_core c = head_of c.head
+head_of_core c = record { version = 1; kind = 0; threads = c.count; variables = c.variables; tracks = c.ntracks; channels = c.nchannels; locks = 16 }
 
 -- Open blocks
 
@@ -150,7 +138,6 @@ module _ (k : Levels) (table : List Step) (ms : List Mark) where
 -- The pace of a thread that comes to a frame.
 abbrev pub pace_at : Kind → Pace
 pace_at Other = Running
-pace_at Begin = Running
 pace_at End = Finished
 pace_at Skip = Running
 pace_at Assign = Running
@@ -169,15 +156,15 @@ arrived table p d = record { at = p; depth = d; pace = pace_at (step_at_place ta
 
 -- A run with one thread elsewhere.
 abbrev pub with_place : Core → ℕ → Place → Core
-with_place c i p = record { head = c.head; cells = c.cells; threads = slice_set c.threads i p; tracks = c.tracks; channels = c.channels; turns = c.turns }
+with_place c i p = record { variables = c.variables; cells = c.cells; count = c.count; threads = slice_set c.threads i p; ntracks = c.ntracks; tracks = c.tracks; nchannels = c.nchannels; channels = c.channels; turns = c.turns }
 
 -- A run with other cells.
 abbrev pub with_cells : Core → List Cell → Core
-with_cells c cs = record { head = c.head; cells = cs; threads = c.threads; tracks = c.tracks; channels = c.channels; turns = c.turns }
+with_cells c cs = record { variables = c.variables; cells = cs; count = c.count; threads = c.threads; ntracks = c.ntracks; tracks = c.tracks; nchannels = c.nchannels; channels = c.channels; turns = c.turns }
 
 -- A run with other channels.
 abbrev pub with_channels : Core → List Port → Core
-with_channels c ps = record { head = c.head; cells = c.cells; threads = c.threads; tracks = c.tracks; channels = ps; turns = c.turns }
+with_channels c ps = record { variables = c.variables; cells = c.cells; count = c.count; threads = c.threads; ntracks = c.ntracks; tracks = c.tracks; nchannels = c.nchannels; channels = ps; turns = c.turns }
 
 -- A cell whose bit the mask has is joined with the level.
 abbrev pub raised_cell : Levels → ℕ → ℕ → ℕ → Cell → Cell
@@ -203,7 +190,6 @@ mem c ms es = record { core = c; marks = ms; entries = es }
 -- Past the end of a block: its else leads past its end.
 abbrev pub beyond : Kind → ℕ → ℕ → ℕ
 beyond Other o p = p + 1
-beyond Begin o p = p + 1
 beyond End o p = p + 1
 beyond Skip o p = p + 1
 beyond Assign o p = p + 1
@@ -249,16 +235,6 @@ opened i ms p l = slice_set ms (first_mark i + p.depth) (record { opener = p.at;
 abbrev pub branch_level : Levels → List ℕ → ℕ → Core → List Mark → Place → Step → ℕ
 branch_level k code i c ms p st = k.join (level_inside ms (first_mark i) p.depth) (level_at k c (bytes_of code st))
 
--- What becomes of a put: dropped, a mark or the value, by the levels of the context, the expression and the channel.
-abbrev pub put_verdict : Levels → List ℕ → ℕ → Core → List Mark → Place → Step → Verdict
-put_verdict k code i c ms p st =
-    let to = (get_or c.channels st.number nil_port).level in
-    putting (k.flows (level_inside ms (first_mark i) p.depth) to) (k.flows (level_at k c (bytes_of code st)) to)
-
--- The entry that a verdict leaves: the value, or a mark in its place with value 0.
-abbrev pub entry_by : Verdict → List ℕ → List ℤ → ℕ → Core → Step → Entry
-entry_by v code ss i c st = record { turn = c.turns + 1; thread = i; mark = (left_by v).mark; value = cond (left_by v).mark (pos 0) (value_at c ss (bytes_of code st)) }
-
 module _ (k : Levels) (code : List ℕ) (ss : List ℤ) (i : ℕ) where
   -- What a put leaves: the value, or a mark where its level may not flow to the channel.
   abbrev pub new_entry : Core → Step → Entry
@@ -281,12 +257,12 @@ module _ (k : Levels) (table : List Step) (code : List ℕ) (ss : List ℤ) (i :
   abbrev pub assigned : Core → List Mark → Place → Step → Core
   assigned c ms p st =
       let bytes = bytes_of code st in
-      arrive_in table i (with_cells c (slice_set c.cells st.number (record { value = value_at c ss bytes; level = k.join (level_at k c bytes) (guard_threads k table ms st.number c.threads c.head.threads) }))) (p.at + 1) p.depth
+      arrive_in table i (with_cells c (slice_set c.cells st.number (record { value = value_at c ss bytes; level = k.join (level_at k c bytes) (guard_threads k table ms st.number c.threads c.count) }))) (p.at + 1) p.depth
 
   -- A branch: what either way assigns is raised, and one way is taken.
   abbrev pub branched : Core → List Mark → Place → Step → Core
   branched c ms p st =
-      arrive_in table i (with_cells c (raised k st.assigned (branch_level k code i c ms p st) c.cells c.head.variables))
+      arrive_in table i (with_cells c (raised k st.assigned (branch_level k code i c ms p st) c.cells c.variables))
       (cond (is_zero (value_at c ss (bytes_of code st))) st.other (p.at + 1)) (p.depth + 1)
 
   -- A put: nothing, a mark or the value.
@@ -307,7 +283,6 @@ module _ (k : Levels) (table : List Step) (code : List ℕ) (ss : List ℤ) (i :
   stepped Finished kd x p st = x
   stepped (Idling n) kd x p st = mem (closing table i n x.core p st) x.marks x.entries
   stepped Running Other x p st = x
-  stepped Running Begin x p st = x
   stepped Running End x p st = x
   stepped Running Skip x p st = mem (skipped table i x.core p) x.marks x.entries
   stepped Running Assign x p st = mem (assigned x.core x.marks p st) x.marks x.entries
@@ -339,11 +314,10 @@ pub record SoundStep (c : Core) (code : List ℕ) (st : Step) : Type 0 where
 -- What a turn at a frame of each kind needs.
 abbrev pub FitAt : Kind → Core → List Step → List ℕ → Place → Step → Type 0
 FitAt Other c table code p st = Unit {0}
-FitAt Begin c table code p st = Unit {0}
 FitAt End c table code p st = Unit {0}
 FitAt Skip c table code p st = p.at + 1 < length table
-FitAt Assign c table code p st = (p.at + 1 < length table) × (st.number < c.head.variables) × SoundStep c code st
-FitAt Put c table code p st = (p.at + 1 < length table) × (st.number < c.head.channels) × SoundStep c code st
+FitAt Assign c table code p st = (p.at + 1 < length table) × (st.number < c.variables) × SoundStep c code st
+FitAt Put c table code p st = (p.at + 1 < length table) × (st.number < c.nchannels) × SoundStep c code st
 FitAt If c table code p st = (p.at + 1 < length table) × (st.other < length table) × (p.depth < 16) × SoundStep c code st
 FitAt Else c table code p st = (st.other < length table) × (0 < p.depth)
 FitAt EndIf c table code p st = (p.at + 1 < length table) × (0 < p.depth)
@@ -366,24 +340,24 @@ pub record Part (q : Port) (turns : ℕ) (es : List Entry) : Type 0 where
 
 -- All threads stand in the table, and so do the blocks that they are inside.
 pub record Sized (c : Core) (table : List Step) (ms : List Mark) : Type 0 where
-  pub few : c.head.threads ≤ 8
-  pub variables : c.head.variables ≤ 64
-  pub tracks : c.head.tracks ≤ 8
-  pub channels : c.head.channels ≤ 8
+  pub few : c.count ≤ 8
+  pub variables : c.variables ≤ 64
+  pub tracks : c.ntracks ≤ 8
+  pub channels : c.nchannels ≤ 8
   pub turns : c.turns ≤ 1000000
   pub short : length table ≤ 512
   pub room : 128 ≤ length ms
-  pub deep : (j : ℕ) → j < c.head.threads → (get_or c.threads j nil_place).depth ≤ 16
-  pub placed : (j : ℕ) → j < c.head.threads → (get_or c.threads j nil_place).at < length table
-  pub openers : (j d : ℕ) → j < c.head.threads → d < (get_or c.threads j nil_place).depth → (get_or ms (first_mark j + d) nil_mark).opener < length table
+  pub deep : (j : ℕ) → j < c.count → (get_or c.threads j nil_place).depth ≤ 16
+  pub placed : (j : ℕ) → j < c.count → (get_or c.threads j nil_place).at < length table
+  pub openers : (j d : ℕ) → j < c.count → d < (get_or c.threads j nil_place).depth → (get_or ms (first_mark j + d) nil_mark).opener < length table
 
 -- Each channel's part lies in the entries.
 abbrev pub Parts : Core → List Entry → Type 0
-Parts c es = (h : ℕ) → h < c.head.channels → Part (slice_index_or c.channels h nil_port) c.turns es
+Parts c es = (h : ℕ) → h < c.nchannels → Part (slice_index_or c.channels h nil_port) c.turns es
 
 -- What a turn of thread i needs.
 pub record Fit (c : Core) (table : List Step) (code : List ℕ) (ms : List Mark) (es : List Entry) (i : ℕ) : Type 0 where
   pub sized : Sized c table ms
   pub parts : Parts c es
-  pub thread : i < c.head.threads
+  pub thread : i < c.count
   pub here : (let p = get_or c.threads i nil_place in let st = step_at_place table p.at in FitNow p.pace st.kind c table code p st)

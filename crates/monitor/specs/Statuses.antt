@@ -6,18 +6,18 @@ use Rattle.model.specs.Machine.{chosen_status, Status as ModelStatus}
 use Rattle.model.specs.Threads.{clash}
 use Rattle.model.specs.Values.{is_zero}
 use Rattle.model.specs.Machine.Status.{ready, finished, waiting, barred}
-use Rattle.survey.specs.declared.table.Kind.{Kind}
-use Rattle.survey.specs.declared.table.Kind.TheVariants.{Other, Begin, End, Skip, Assign, Put, If, Else, EndIf, While, EndWhile, With, EndWith}
+use Rattle.monitor.specs.declared.Kind.{Kind}
+use Rattle.monitor.specs.declared.Kind.TheVariants.{Other, End, Skip, Assign, Put, If, Else, EndIf, While, EndWhile, With, EndWith}
 use Rattle.monitor.specs.declared.Status.{Status}
 use Rattle.monitor.specs.declared.Status.TheVariants.{Ready, Finished, Waiting, Barred}
-use Rattle.survey.specs.declared.table.Step.{Step}
+use Rattle.monitor.specs.declared.Step.{Step}
 use Rattle.monitor.specs.declared.Mark.{Mark}
 use Rattle.monitor.specs.declared.Pace.{Pace}
 use Rattle.monitor.specs.declared.Pace.TheVariants.{Running, Idling, Finished as Over}
 use Rattle.monitor.specs.declared.Place.{Place}
 use Rattle.monitor.specs.declared.Core.{Core}
-use Rattle.monitor.specs.Flat.{nil_mark, nil_place, first_mark, level_inside, level_at, value_at}
-use Rattle.survey.specs.Table.{step_at_place, bytes_of}
+use Rattle.monitor.specs.Table.{nil_mark, step_at_place, bytes_of}
+use Rattle.monitor.specs.Flat.{nil_place, first_mark, level_inside, level_at, value_at}
 
 -- A status as the model has it.
 abbrev pub status_of : Status → ModelStatus
@@ -56,21 +56,20 @@ module _ (k : Levels) (table : List Step) (code : List ℕ) (i : ℕ) where
   if_status c ms p st =
       let here = level_inside ms (first_mark i) p.depth in
       let l = k.join here (level_at k c (bytes_of code st)) in
-      chosen_status (not st.fixed && not (is_open l)) ((is_open here && not (is_open l)) && clash st.needed (against_first table ms i c.threads c.head.threads))
+      chosen_status (not st.fixed && not (is_open l)) ((is_open here && not (is_open l)) && clash st.needed (against_first table ms i c.threads c.count))
 
 module _ (k : Levels) (table : List Step) (code : List ℕ) (ss : List ℤ) (i : ℕ) where
   -- The status at a with.
   abbrev pub with_status : Core → List Mark → Place → Step → ModelStatus
   with_status c ms p st =
       chosen_status (not (is_open (level_at k c (bytes_of code st))))
-      (is_open (level_inside ms (first_mark i) p.depth) && (is_zero (value_at c ss (bytes_of code st)) || clash st.mask (against_first table ms i c.threads c.head.threads)))
+      (is_open (level_inside ms (first_mark i) p.depth) && (is_zero (value_at c ss (bytes_of code st)) || clash st.mask (against_first table ms i c.threads c.count)))
 
   -- The status by the thread's pace and the kind of its next frame.
   abbrev pub status_by : Pace → Kind → Core → List Mark → Place → Step → ModelStatus
   status_by (Idling n) kd c ms p st = ready
   status_by Over kd c ms p st = finished
   status_by Running Other c ms p st = ready
-  status_by Running Begin c ms p st = ready
   status_by Running End c ms p st = ready
   status_by Running Skip c ms p st = ready
   status_by Running Assign c ms p st = ready

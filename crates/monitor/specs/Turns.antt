@@ -4,10 +4,10 @@ use Rattle.lattice.specs.Levels.{Levels}
 use Rattle.script.specs.Code.{Script}
 use Rattle.model.specs.Machine.{State, status_is_ready, status_is_finished, rules, ready_set, take_turn, advance}
 use Rattle.scheduler.specs.Turns.{Meaning}
-use Rattle.survey.specs.declared.table.Step.{Step}
+use Rattle.monitor.specs.declared.Step.{Step}
 use Rattle.monitor.specs.declared.Mark.{Mark}
 use Rattle.monitor.specs.declared.Core.{Core}
-use Rattle.survey.specs.Table.{step_at_place}
+use Rattle.monitor.specs.Table.{step_at_place}
 use Rattle.monitor.specs.Flat.{nil_place, Sized, FitNow, Mem}
 use Rattle.monitor.specs.Statuses.{status_now}
 use Rattle.monitor.specs.Views.{Runs}
@@ -15,7 +15,7 @@ use Rattle.monitor.specs.Views.{Runs}
 -- Every thread can be asked.
 pub record AllFit (c : Core) (table : List Step) (code : List ℕ) (ms : List Mark) : Type 0 where
   pub sized : Sized c table ms
-  pub here : (i : ℕ) → i < c.head.threads → (let p = get_or c.threads i nil_place in let st = step_at_place table p.at in FitNow p.pace st.kind c table code p st)
+  pub here : (i : ℕ) → i < c.count → (let p = get_or c.threads i nil_place in let st = step_at_place table p.at in FitNow p.pace st.kind c table code p st)
 
 -- A choice among n threads.
 abbrev pub Within : Option ℕ → ℕ → Type 0

@@ -1,14 +1,13 @@
 // Open blocks: the context level, the guards, the locks that are held.
 ghost use Rattle.std.specs.Prelude.{◌≡◌, ℕ, ◌+◌, ◌-◌, ◌*◌, ◌<◌, ◌≤◌, length, get_or, if◌then◌else◌, slice_index_or};
-ghost use Rattle.monitor.specs.Flat.{nil_mark, first_mark, level_inside, guard_marks, guard_threads, with_cells, raised, raised_cell, Sized, opener_step};
-ghost use Rattle.survey.specs.Stretches.{has_bit};
+ghost use Rattle.monitor.specs.Table.{has_bit, nil_mark};
+ghost use Rattle.monitor.specs.Flat.{first_mark, level_inside, guard_marks, guard_threads, with_cells, raised, raised_cell, Sized, opener_step};
 ghost use Rattle.model.specs.Levels.{is_open as level_open};
 ghost use Rattle.monitor.specs.Statuses.{owned_marks, reserved_one, reserved_marks, held_one, against_first};
 
 use crate::stack::Stack;
-use crate::{Cell, Core, Mark, Place, Turn};
+use crate::{Cell, Core, Mark, Place, Step, Turn};
 use lattice::{Lattice, OPEN};
-use survey::Step;
 
 // Whether the mask has bit x.
 fn bit(mask: u64, x: u8) -> bool
@@ -173,10 +172,10 @@ impl Core {
     pub(crate) fn guard<K: Lattice>(&self, table: &[Step], marks: &[Mark], x: u8) -> u32
         requires sized { Sized self.now table.now marks.now }
         requires x { x < 64 }
-        ensures { result ≡ guard_threads order table.now marks.now x self.now.threads self.now.head.threads }
+        ensures { result ≡ guard_threads order table.now marks.now x self.now.threads self.now.count }
     {
         let mut all = OPEN;
-        for i in 0..self.head.threads {
+        for i in 0..self.count {
             all = guard_of::<K>(
                 table,
                 marks,
@@ -191,10 +190,10 @@ impl Core {
 
     // Each variable of the mask has its level joined with `level`.
     pub(crate) fn raise<K: Lattice>(&mut self, mask: u64, level: u32)
-        requires { self.old.head.variables ≤ 64 }
-        ensures { self.new ≡ with_cells self.old (raised order mask level self.old.cells self.old.head.variables) }
+        requires { self.old.variables ≤ 64 }
+        ensures { self.new ≡ with_cells self.old (raised order mask level self.old.cells self.old.variables) }
     {
-        for x in 0..self.head.variables {
+        for x in 0..self.variables {
             self.cells[x as usize] = raise_cell::<K>(self.cells[x as usize], mask, x, level);
         }
     }
@@ -202,10 +201,10 @@ impl Core {
     // The locks that stand against thread i.
     pub(crate) fn against(&self, i: u8, table: &[Step], marks: &[Mark]) -> u16
         requires sized { Sized self.now table.now marks.now }
-        ensures { result ≡ against_first table.now marks.now i self.now.threads self.now.head.threads }
+        ensures { result ≡ against_first table.now marks.now i self.now.threads self.now.count }
     {
         let mut all = 0;
-        for j in 0..self.head.threads {
+        for j in 0..self.count {
             all = all | held(table, marks, i, j, self.threads[j as usize]);
         }
         all

@@ -1,6 +1,6 @@
 // How each thread stands.
 ghost use Rattle.std.specs.Prelude.{◌≡◌, ◌<◌, ◌≤◌, length, slice_index_or};
-ghost use Rattle.survey.specs.Table.{step_at_place};
+ghost use Rattle.monitor.specs.Table.{step_at_place};
 ghost use Rattle.monitor.specs.Flat.{nil_place, Sized, SoundStep, FitNow, TrackParts};
 ghost use Rattle.model.specs.Machine.{chosen_status, status_is_ready as model-ready, status_is_finished as model-finished};
 ghost use Rattle.monitor.specs.Statuses.{status_of, if_status, with_status, status_now};
@@ -8,9 +8,8 @@ ghost use Rattle.monitor.specs.Turns.{AllFit, ReadyList, over_first};
 
 use crate::blocks::{context_level, is_open};
 use crate::values::expression;
-use crate::{Core, Mark, Pace, Place, Status, Survey};
+use crate::{Core, Kind, Mark, Pace, Place, Status, Step, Survey};
 use lattice::Lattice;
-use survey::{Kind, Step};
 
 // Barred is looked at first, then waiting.
 fn choose_status(barred: bool, waits: bool) -> Status
@@ -105,7 +104,7 @@ impl Core {
         samples: &[i32],
         work: &mut [i32],
     ) -> Status
-        requires sized { (Sized self.now table.now marks.now) × ((i < self.now.head.threads) × (16 ≤ length work.old)) }
+        requires sized { (Sized self.now table.now marks.now) × ((i < self.now.count) × (16 ≤ length work.old)) }
         requires here { let p = slice_index_or self.now.threads i nil_place in let st = step_at_place table.now p.at in FitNow p.pace st.kind self.now table.now code.now p st }
         requires tracks { TrackParts self.now samples.now }
         ensures { status_of result ≡ status_now order table.now code.now samples.now i self.now marks.now }
@@ -139,12 +138,12 @@ impl Core {
         requires fit { AllFit self.now table.now code.now marks.now }
         requires work { 16 ≤ length work.old }
         requires tracks { TrackParts self.now samples.now }
-        ensures ready { ReadyList order table.now code.now samples.now self.now marks.now result.ready self.now.head.threads }
-        ensures over { result.over ≡ over_first order table.now code.now samples.now self.now marks.now self.now.head.threads }
+        ensures ready { ReadyList order table.now code.now samples.now self.now marks.now result.ready self.now.count }
+        ensures over { result.over ≡ over_first order table.now code.now samples.now self.now marks.now self.now.count }
     {
         let mut ready = [false; 8];
         let mut over = true;
-        for i in 0..self.head.threads {
+        for i in 0..self.count {
             let status = self.status::<K>(i, table, code, marks, samples, work);
             ready[i as usize] = is_ready(status);
             over = over & is_finished(status);

@@ -1,20 +1,18 @@
 // What a turn does.
 ghost use Rattle.std.specs.Prelude.{◌≡◌, ◌+◌, ◌-◌, ◌<◌, ◌≤◌, length, get_or, slice_index_or, slice_set};
-ghost use Rattle.monitor.specs.Flat.{nil_mark, turn_at, first_mark, level_inside, arrived, with_place, nil_place, Sized, Fit, FitAt, SoundStep, mem, after_turn, skipped, assigned, branched, branch_level, opened, closing, beyond, Part, Parts, nil_port, with_channels, added_port, added_entries, entry_by, put_verdict, put_core, put_entries, looped, looped_marks, arrive_in, TrackParts};
+ghost use Rattle.monitor.specs.Table.{nil_mark};
+ghost use Rattle.monitor.specs.Flat.{turn_at, first_mark, level_inside, arrived, with_place, nil_place, Sized, Fit, FitAt, SoundStep, mem, after_turn, skipped, assigned, branched, branch_level, opened, closing, beyond, Part, Parts, nil_port, with_channels, added_port, added_entries, new_entry, put_core, put_entries, looped, looped_marks, arrive_in, TrackParts};
 ghost use Rattle.std.proofs.Math.Option.{some};
 ghost use Rattle.script.specs.Code.{Script};
 ghost use Rattle.model.specs.Machine.{State, rules, take_turn};
-ghost use Rattle.monitor.specs.Leaves.{Leaves};
 ghost use Rattle.monitor.specs.Views.{Runs, RunningMem};
 ghost use Rattle.monitor.specs.Turns.{Within};
 ghost use Rattle.scheduler.specs.Turns.{answered};
 
 use crate::blocks::{context_level, innermost, open_blocks, opener};
 use crate::values::expression;
-use crate::verdicts::{Verdict, decide};
-use crate::{Cell, Core, Entry, Mark, Pace, Place, Turn, verdicts};
+use crate::{Cell, Core, Entry, Kind, Mark, Pace, Place, Step, Turn};
 use lattice::Lattice;
-use survey::{Kind, Step};
 
 // The place of a thread that comes to a frame.
 fn arrive(table: &[Step], at: u16, depth: u8) -> Place
@@ -154,51 +152,33 @@ impl Core {
         }
     }
 
-    // What becomes of a put: one decision by the levels of the context, the expression and the channel.
-    fn verdict<K: Lattice>(&self, t: Turn, code: &[u8], marks: &[Mark]) -> Verdict
-        requires fit { (SoundStep self.now code.now t.step) × ((t.step.number < 8) × (t.step.kind ≡ Kind.Put)) }
-        requires few { (self.now.head.variables ≤ 64) × (self.now.head.tracks ≤ 8) }
-        requires room { (t.thread < 8) × ((t.place.depth ≤ 16) × (128 ≤ length marks.now)) }
-        ensures { result ≡ put_verdict order code.now t.thread self.now marks.now t.place t.step }
-    {
-        let to = self.channels[t.step.number as usize].level;
-        let context = context_level(marks, t.thread * 16, t.place.depth);
-        let level = self.level::<K>(expression(code, t.step));
-        decide(
-            verdicts::code(t.step.kind),
-            K::flows(context, to),
-            K::flows(level, to),
-        )
-    }
-
-    // What a put leaves that is not dropped.
-    fn entry(
-        &self,
-        t: Turn,
-        verdict: Verdict,
-        code: &[u8],
-        samples: &[i32],
-        work: &mut [i32],
-    ) -> Entry
-        requires fit { SoundStep self.now code.now t.step }
-        requires few { (self.now.head.variables ≤ 64) × (self.now.head.tracks ≤ 8) }
+    // What a put puts, if it puts anything.
+    fn entry<K: Lattice>(&self, t: Turn, code: &[u8], samples: &[i32], work: &mut [i32]) -> Entry
+        requires fit { (SoundStep self.now code.now t.step) × (t.step.number < 8) }
+        requires few { (self.now.variables ≤ 64) × (self.now.ntracks ≤ 8) }
         requires small { (t.thread < 8) × ((16 ≤ length work.old) × (self.now.turns ≤ 1000000)) }
         requires tracks { TrackParts self.now samples.now }
-        ensures { result ≡ entry_by verdict code.now samples.now t.thread self.now t.step }
+        ensures { result ≡ new_entry order code.now samples.now t.thread self.now t.step }
     {
-        let (mark, value) = match verdict {
-            Verdict::Value => (false, self.value(expression(code, t.step), samples, work)),
-            _ => (true, 0),
+        let bytes = expression(code, t.step);
+        let open = K::flows(
+            self.level::<K>(bytes),
+            self.channels[t.step.number as usize].level,
+        );
+        let value = if open {
+            self.value(bytes, samples, work)
+        } else {
+            0
         };
         Entry {
             turn: self.turns + 1,
             thread: t.thread as u8,
-            mark,
+            mark: !open,
             value,
         }
     }
 
-    // A put: an entry on its channel, or one more missed, unless it is dropped.
+    // A put: dropped where the context level may not flow to the channel.
     fn put<K: Lattice>(
         &mut self,
         t: Turn,
@@ -210,16 +190,19 @@ impl Core {
         work: &mut [i32],
     )
         requires sized { (Sized self.old table.now marks.now) × (Parts self.old entries.old) }
-        requires fit { (FitAt Kind.Put self.old table.now code.now t.place t.step) × ((t.place.depth ≤ 16) × (t.step.kind ≡ Kind.Put)) }
+        requires fit { (FitAt Kind.Put self.old table.now code.now t.place t.step) × (t.place.depth ≤ 16) }
         requires small { (t.thread < 8) × (16 ≤ length work.old) }
         requires tracks { TrackParts self.old samples.now }
         ensures core { self.new ≡ put_core order table.now code.now samples.now t.thread self.old marks.now t.place t.step }
         ensures entries { entries.new ≡ put_entries order table.now code.now samples.now t.thread self.old marks.now t.place t.step entries.old }
     {
-        let verdict = self.verdict::<K>(t, code, marks);
-        if verdict.leaves_one() {
-            let entry = self.entry(t, verdict, code, samples, work);
-            self.add_entry(t.step.number as usize, entry, entries);
+        let h = t.step.number as usize;
+        if K::flows(
+            context_level(marks, t.thread * 16, t.place.depth),
+            self.channels[h].level,
+        ) {
+            let entry = self.entry::<K>(t, code, samples, work);
+            self.add_entry(h, entry, entries);
         }
         self.arrive_at(t.thread, table, t.place.at + 1, t.place.depth);
     }
@@ -328,7 +311,7 @@ impl Core {
             (Pace::Running, Kind::EndWhile) => self.return_to_test(t, table, marks),
             (Pace::Running, Kind::With) => self.enter(t, table, marks),
             (Pace::Running, Kind::EndWith) => self.leave(t, table),
-            (Pace::Running, Kind::Other | Kind::Begin | Kind::End) => {}
+            (Pace::Running, Kind::Other | Kind::End) => {}
         }
     }
 
@@ -344,9 +327,8 @@ impl Core {
         work: &mut [i32],
     )
         requires runs { RunningMem table.now code.now samples.now (mem self.old marks.old entries.old) }
-        requires thread { (i < self.old.head.threads) × ((self.old.turns < 1000000) × (16 ≤ length work.old)) }
-        ensures runs { (sc : Script) (s : State) → Runs sc table.now code.now samples.now (mem self.old marks.old entries.old) s → Runs sc table.now code.now samples.now (mem self.new marks.new entries.new) (take_turn (rules order sc) s (some i)) }
-        ensures leaves { Leaves (mem self.old marks.old entries.old) (mem self.new marks.new entries.new) }
+        requires thread { (i < self.old.count) × ((self.old.turns < 1000000) × (16 ≤ length work.old)) }
+        ensures { (sc : Script) (s : State) → Runs sc table.now code.now samples.now (mem self.old marks.old entries.old) s → Runs sc table.now code.now samples.now (mem self.new marks.new entries.new) (take_turn (rules order sc) s (some i)) }
     {
         let turns = self.turns;
         self.step::<K>(i, table, code, marks, samples, entries, work);
@@ -365,11 +347,10 @@ impl Core {
         work: &mut [i32],
     )
         requires runs { RunningMem table.now code.now samples.now (mem self.old marks.old entries.old) }
-        requires chosen { Within chosen self.old.head.threads }
+        requires chosen { Within chosen self.old.count }
         requires turns { self.old.turns < 1000000 }
         requires work { 16 ≤ length work.old }
-        ensures runs { (sc : Script) (s : State) → Runs sc table.now code.now samples.now (mem self.old marks.old entries.old) s → Runs sc table.now code.now samples.now (mem self.new marks.new entries.new) (take_turn (rules order sc) s (answered chosen)) }
-        ensures leaves { Leaves (mem self.old marks.old entries.old) (mem self.new marks.new entries.new) }
+        ensures { (sc : Script) (s : State) → Runs sc table.now code.now samples.now (mem self.old marks.old entries.old) s → Runs sc table.now code.now samples.now (mem self.new marks.new entries.new) (take_turn (rules order sc) s (answered chosen)) }
     {
         match chosen {
             Some(i) => self.turn_of::<K>(i as usize, table, code, marks, samples, entries, work),

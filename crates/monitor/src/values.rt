@@ -1,16 +1,15 @@
 // Expressions: their values and levels, from the bytes of the script slab.
 ghost use Rattle.std.specs.Prelude.{◌≡◌, ◌+◌, ◌-◌, ◌<◌, ◌≤◌, [], length, pos, slice_index_or, slice_set};
-ghost use Rattle.survey.specs.Table.{Good, bytes_of};
+ghost use Rattle.monitor.specs.Table.{Good, bytes_of};
 ghost use Rattle.monitor.specs.Flat.{track_of, tracks_of, made_at, value_at, level_at, head_of_core, TrackParts, cell_level, track_level};
 ghost use Rattle.model.specs.Values.{truth, apply_binary, apply_unary, sample_at};
 ghost use Rattle.codec.specs.Operations.{op_of, binary_of, unary_of};
 ghost use Rattle.monitor.specs.Operations.{joined_one, Named, taken};
 
 use crate::stack::Stack;
-use crate::{Core, Port};
+use crate::{Core, Port, Step};
 use codec::expressions::{Binary, Op, Unary, first_op};
 use lattice::{Lattice, OPEN};
-use survey::Step;
 
 // The bytes of a step's expression.
 pub(crate) fn expression(code: &[u8], st: Step) -> &[u8]
@@ -81,7 +80,7 @@ fn operands(op: Op) -> usize
 impl Core {
     // A sample by its index; an index below 0 or not yet fed gives 0.
     fn sample(&self, t: u8, index: i32, samples: &[i32]) -> i32
-        requires few { (t < self.now.head.tracks) × (self.now.head.tracks ≤ 8) }
+        requires few { (t < self.now.ntracks) × (self.now.ntracks ≤ 8) }
         requires tracks { TrackParts self.now samples.now }
         ensures { result ≡ sample_at (slice_index_or (tracks_of self.now samples.now) t []) index }
     {
@@ -95,9 +94,9 @@ impl Core {
 
     // The number that an operation makes of the working numbers.
     fn made(&self, op: Op, numbers: Stack, samples: &[i32], work: &[i32]) -> i32
-        requires few { (self.now.head.variables ≤ 64) × (self.now.head.tracks ≤ 8) }
+        requires few { (self.now.variables ≤ 64) × (self.now.ntracks ≤ 8) }
         requires tracks { TrackParts self.now samples.now }
-        requires named { Named self.now.head.variables self.now.head.tracks op }
+        requires named { Named self.now.variables self.now.ntracks op }
         requires held { (taken op ≤ numbers.held) × (numbers.base + numbers.held ≤ length work.now) }
         ensures { result ≡ made_at self.now samples.now op numbers work.now }
     {
@@ -113,9 +112,9 @@ impl Core {
 
     // One operation on the working numbers.
     fn apply(&self, op: Op, numbers: Stack, samples: &[i32], work: &mut [i32]) -> Stack
-        requires few { (self.now.head.variables ≤ 64) × (self.now.head.tracks ≤ 8) }
+        requires few { (self.now.variables ≤ 64) × (self.now.ntracks ≤ 8) }
         requires tracks { TrackParts self.now samples.now }
-        requires named { Named self.now.head.variables self.now.head.tracks op }
+        requires named { Named self.now.variables self.now.ntracks op }
         requires held { (taken op ≤ numbers.held) × (numbers.held - taken op < 16) }
         requires room { (numbers.held ≤ 16) × (numbers.base + 16 ≤ length work.old) }
         ensures numbers { result ≡ record { base = numbers.base; held = numbers.held - taken op + 1 } }
@@ -127,7 +126,7 @@ impl Core {
 
     // The value of an expression.
     pub(crate) fn value(&self, code: &[u8], samples: &[i32], work: &mut [i32]) -> i32
-        requires few { (self.now.head.variables ≤ 64) × (self.now.head.tracks ≤ 8) }
+        requires few { (self.now.variables ≤ 64) × (self.now.ntracks ≤ 8) }
         requires tracks { TrackParts self.now samples.now }
         requires good { Good (head_of_core self.now) code.now }
         requires work { 16 ≤ length work.old }
@@ -144,8 +143,8 @@ impl Core {
 
     // One operation's part of a level.
     fn level_one<K: Lattice>(&self, op: Op, from: u32) -> u32
-        requires few { (self.now.head.variables ≤ 64) × (self.now.head.tracks ≤ 8) }
-        requires named { Named self.now.head.variables self.now.head.tracks op }
+        requires few { (self.now.variables ≤ 64) × (self.now.ntracks ≤ 8) }
+        requires named { Named self.now.variables self.now.ntracks op }
         ensures { result ≡ joined_one order (cell_level self.now) (track_level self.now) (op_of op) from }
     {
         match op {
@@ -158,7 +157,7 @@ impl Core {
 
     // The level of an expression.
     pub(crate) fn level<K: Lattice>(&self, code: &[u8]) -> u32
-        requires few { (self.now.head.variables ≤ 64) × (self.now.head.tracks ≤ 8) }
+        requires few { (self.now.variables ≤ 64) × (self.now.ntracks ≤ 8) }
         requires good { Good (head_of_core self.now) code.now }
         ensures { result ≡ level_at order self.now code.now }
     {

@@ -1,11 +1,12 @@
 // Reads a script from standard input, checks it, writes it back, and says in plain words what was done and found.
 use crate::account::{account, refused};
+use crate::intake::{Kind, LONGEST, kind_for_text, short_enough};
 use lattice::{Bits, Lattice, TwoPoint};
-use protocol::intake::{Kind, LONGEST, kind_for_text, short_enough};
 use script::{SLAB, read};
 use std::io::Read;
 
 mod account;
+mod intake;
 mod words;
 
 fn report<K: Lattice>(rt: &HostRuntime, text: &[u8]) -> anyhow::Result<()> {

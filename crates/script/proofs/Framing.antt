@@ -66,7 +66,7 @@ cut_slab slab i h = go (ltb i 512)
     go false = refl
 
 module _ (kind : ℕ) (k : Levels) (slab : List ℕ) (fs : List M.Frame) (h : Holds kind k slab fs) (i : ℕ) where
-  pub frame_held : frame_in slab i ≡ frame_number i fs
+  frame_held : frame_in slab i ≡ frame_number i fs
   frame_held = ⊎_elim inside past (cases_lt i (length fs))
     where
       all : All Writable fs

@@ -2,9 +2,3 @@ pub mod Literals
 pub mod Masks
 pub mod Peeling
 pub mod Framed
-pub mod Strides
-pub mod Standing
-pub mod Parts
-pub mod Expressing
-pub mod Righting
-pub mod Tabling

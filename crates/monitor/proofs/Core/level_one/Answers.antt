@@ -10,7 +10,7 @@ pub returns-in-Variable : goal.returns-in-Variable
 returns-in-Variable g c =
     let k = g.K.Lattice.order in
     let s = c.args.self.now in
-    let P : Op → Type 0 = Named s.head.variables s.head.tracks in
+    let P : Op → Type 0 = Named s.variables s.ntracks in
     c.join.ensures ∙ ap (k.join c.args.from) (cell_level_at s c.in-Variable.x (subst P c.in-Variable.is c.requires.named))
     ∙ ap (λ (o : Op). joined_one k (cell_level s) (track_level s) (op_of o) c.args.from) (sym c.in-Variable.is)
 
@@ -18,7 +18,7 @@ pub returns-in-Sample : goal.returns-in-Sample
 returns-in-Sample g c =
     let k = g.K.Lattice.order in
     let s = c.args.self.now in
-    let P : Op → Type 0 = Named s.head.variables s.head.tracks in
+    let P : Op → Type 0 = Named s.variables s.ntracks in
     c.join-in-Sample.ensures ∙ ap (k.join c.args.from) (track_level_at s c.in-Sample.t (subst P c.in-Sample.is c.requires.named))
     ∙ ap (λ (o : Op). joined_one k (cell_level s) (track_level s) (op_of o) c.args.from) (sym c.in-Sample.is)
 
@@ -26,6 +26,6 @@ pub returns-in-Held : goal.returns-in-Held
 returns-in-Held g c =
     let k = g.K.Lattice.order in
     let s = c.args.self.now in
-    let P : Op → Type 0 = Named s.head.variables s.head.tracks in
+    let P : Op → Type 0 = Named s.variables s.ntracks in
     c.join-in-Held.ensures ∙ ap (k.join c.args.from) (track_level_at s c.in-Held.t (subst P c.in-Held.is c.requires.named))
     ∙ ap (λ (o : Op). joined_one k (cell_level s) (track_level s) (op_of o) c.args.from) (sym c.in-Held.is)

@@ -10,7 +10,7 @@ pub returns-in-Variable : goal.returns-in-Variable
 returns-in-Variable c =
     let s = c.args.self.now in
     let x = c.in-Variable.x in
-    let P : Op → Type 0 = Named s.head.variables s.head.tracks in
+    let P : Op → Type 0 = Named s.variables s.ntracks in
     let value : ℤ = (get_or s.cells x nil_cell).value in
     let fits : SFits w32 value = search rules in
     to_z-of_z w32 value fits ∙ cell_value_at s x (subst P c.in-Variable.is c.requires.named)
@@ -20,7 +20,7 @@ pub returns-in-Held : goal.returns-in-Held
 returns-in-Held c =
     let s = c.args.self.now in
     let t = c.in-Held.t in
-    let P : Op → Type 0 = Named s.head.variables s.head.tracks in
+    let P : Op → Type 0 = Named s.variables s.ntracks in
     let lt = subst P c.in-Held.is c.requires.named in
     held_is s c.args.samples.now t lt (c.requires.tracks t lt).0 (c.requires.tracks t lt).1
     ∙ ap (λ (o : Op). made_at s c.args.samples.now o c.args.numbers c.args.work.now) (sym c.in-Held.is)

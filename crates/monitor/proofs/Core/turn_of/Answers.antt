@@ -1,5 +1,4 @@
-use Rattle.std.proofs.Common.{◌+◌}
-use Rattle.monitor.proofs.Taking.{runs_fit, turn_of_leaves, turn_of_runs}
+use Rattle.monitor.proofs.Turns.{runs_fit, turn_of_runs}
 use Rattle.monitor.proofs.Core.turn_of.Goals as goal
 
 pub step-requires : goal.step-requires
@@ -10,11 +9,6 @@ step-requires g c = record {
 }
 
 pub returns : goal.returns
-returns g c = record {
-  runs =
-      turn_of_runs c.args.table.now c.args.code.now c.args.samples.now c.args.self.now c.args.marks.now c.args.entries.now c.args.i c.requires.thread.0
-      g.K.Lattice.order _ c.requires.thread.1.0 c.step.ensures;
-  leaves =
-      turn_of_leaves c.args.table.now c.args.code.now c.args.samples.now c.args.self.now c.args.marks.now c.args.entries.now c.args.i c.requires.thread.0
-      g.K.Lattice.order _ (c.args.self.now.turns + 1) c.step.ensures c.requires.runs;
-}
+returns g c =
+    turn_of_runs c.args.table.now c.args.code.now c.args.samples.now c.args.self.now c.args.marks.now c.args.entries.now c.args.i c.requires.thread.0
+    g.K.Lattice.order _ c.requires.thread.1.0 c.step.ensures

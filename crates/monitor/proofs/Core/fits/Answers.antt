@@ -1,5 +1,0 @@
-use Rattle.monitor.proofs.Matching.{all_told}
-use Rattle.monitor.proofs.Core.fits.Goals as goal
-
-pub returns : goal.returns
-returns g c = all_told g.K.Lattice.kind g.K.Lattice.order c.args.table.now c.args.self.now c.args.marks.now _ _ c.threads-fit.ensures c.levels-fit.ensures

@@ -1,7 +1,0 @@
-use Rattle.std.proofs.Common.{◌≡◌, ◌*◌, ◌≤◌, length}
-use Rattle.monitor.specs.Kept.{room}
-use Rattle.monitor.specs.Declaring.{PortsAt}
-use Rattle.monitor.proofs.declaring.ports.Given as goal
-
-abbrev pub invariant-loop-h : goal.invariant-loop-h
-invariant-loop-h l = (l.start ≡ room l.all l.h) × (l.start ≤ 65535 * l.h) × (length l.all ≡ 8) × PortsAt l.script l.first l.h l.all

@@ -1,3 +1,0 @@
-pub mod Intake
-pub mod RunLines
-pub mod Replies

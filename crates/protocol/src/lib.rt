@@ -1,4 +1,0 @@
-// The lines around a script: what a program that runs scripts takes, and what it writes.
-pub mod intake;
-pub mod replies;
-pub mod run_lines;
