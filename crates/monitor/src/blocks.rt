@@ -67,7 +67,7 @@ pub(crate) fn opener(table: &[Step], marks: &[Mark], t: Turn) -> Step
 // One block's part of the guard: its level, if it assigns the variable.
 fn guard_one<K: Lattice>(assigned: u64, level: u32, x: u8, from: u32) -> u32
     requires { x < 64 }
-    ensures { result ≡ (if has_bit assigned x then order.join from level else from) }
+    ensures { result ≡ (if has_bit assigned x then K.order.join from level else from) }
 {
     if bit(assigned, x) {
         K::join(from, level)
@@ -87,7 +87,7 @@ fn guard_of<K: Lattice>(
 ) -> u32
     requires room { (base + depth ≤ length marks.now) × ((base ≤ 128) × (x < 64)) }
     requires openers { (d : ℕ) → d < depth → (get_or marks.now (base + d) nil_mark).opener < length table.now }
-    ensures { result ≡ guard_marks order table.now marks.now x base depth from }
+    ensures { result ≡ guard_marks K.order table.now marks.now x base depth from }
 {
     let mut all = from;
     for d in 0..depth {
@@ -100,7 +100,7 @@ fn guard_of<K: Lattice>(
 // A variable whose bit the mask has, its level joined with `level`.
 fn raise_cell<K: Lattice>(cell: Cell, mask: u64, x: u8, level: u32) -> Cell
     requires { x < 64 }
-    ensures { result ≡ raised_cell order mask level x cell }
+    ensures { result ≡ raised_cell K.order mask level x cell }
 {
     if bit(mask, x) {
         Cell {
@@ -172,7 +172,7 @@ impl Core {
     pub(crate) fn guard<K: Lattice>(&self, table: &[Step], marks: &[Mark], x: u8) -> u32
         requires sized { Sized self.now table.now marks.now }
         requires x { x < 64 }
-        ensures { result ≡ guard_threads order table.now marks.now x self.now.threads self.now.count }
+        ensures { result ≡ guard_threads K.order table.now marks.now x self.now.threads self.now.count }
     {
         let mut all = OPEN;
         for i in 0..self.count {
@@ -191,7 +191,7 @@ impl Core {
     // Each variable of the mask has its level joined with `level`.
     pub(crate) fn raise<K: Lattice>(&mut self, mask: u64, level: u32)
         requires { self.old.variables ≤ 64 }
-        ensures { self.new ≡ with_cells self.old (raised order mask level self.old.cells self.old.variables) }
+        ensures { self.new ≡ with_cells self.old (raised K.order mask level self.old.cells self.old.variables) }
     {
         for x in 0..self.variables {
             self.cells[x as usize] = raise_cell::<K>(self.cells[x as usize], mask, x, level);

@@ -166,10 +166,10 @@ impl<K: Lattice, S: Scheduler> Run<K, S> {
         work: &mut [i32],
     )
         requires runs { RunningMem table.now code.now samples.now (mem self.old.core marks.old entries.old) }
-        requires ready { ReadyList order table.now code.now samples.now self.old.core marks.old ready self.old.core.count }
+        requires ready { ReadyList K.order table.now code.now samples.now self.old.core marks.old ready self.old.core.count }
         requires turns { self.old.core.turns < 1000000 }
         requires work { 16 ≤ length work.old }
-        ensures { (sc : Script) (s : State) → Runs sc table.now code.now samples.now (mem self.old.core marks.old entries.old) s → Turned order meaning table.now code.now samples.now (mem self.old.core marks.old entries.old) (mem self.new.core marks.new entries.new) self.old.scheduler self.new.scheduler sc s }
+        ensures { (sc : Script) (s : State) → Runs sc table.now code.now samples.now (mem self.old.core marks.old entries.old) s → Turned K.order S.meaning table.now code.now samples.now (mem self.old.core marks.old entries.old) (mem self.new.core marks.new entries.new) self.old.scheduler self.new.scheduler sc s }
     {
         let count = self.core.count as usize;
         let chosen = self.scheduler.choose(&ready[0..count]);
@@ -190,7 +190,7 @@ impl<K: Lattice, S: Scheduler> Run<K, S> {
     ) -> u32
         requires runs { RunningMem table.now code.now samples.now (mem self.old.core marks.old entries.old) }
         requires work { 16 ≤ length work.old }
-        ensures { (sc : Script) (s : State) → Runs sc table.now code.now samples.now (mem self.old.core marks.old entries.old) s → Advanced order meaning table.now code.now samples.now n result (mem self.new.core marks.new entries.new) self.old.scheduler self.new.scheduler sc s }
+        ensures { (sc : Script) (s : State) → Runs sc table.now code.now samples.now (mem self.old.core marks.old entries.old) s → Advanced K.order S.meaning table.now code.now samples.now n result (mem self.new.core marks.new entries.new) self.old.scheduler self.new.scheduler sc s }
     {
         let mut given = 0;
         while given < n {

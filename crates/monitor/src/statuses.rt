@@ -57,7 +57,7 @@ impl Core {
     ) -> Status
         requires sized { Sized self.now table.now marks.now }
         requires fit { (SoundStep self.now code.now st) × ((p.depth ≤ 16) × (i < 8)) }
-        ensures { status_of result ≡ if_status order table.now code.now i self.now marks.now p st }
+        ensures { status_of result ≡ if_status K.order table.now code.now i self.now marks.now p st }
     {
         let here = context_level(marks, i as usize * 16, p.depth);
         let level = K::join(here, self.level::<K>(expression(code, st)));
@@ -83,7 +83,7 @@ impl Core {
         requires sized { Sized self.now table.now marks.now }
         requires fit { (SoundStep self.now code.now st) × ((p.depth ≤ 16) × ((i < 8) × (16 ≤ length work.old))) }
         requires tracks { TrackParts self.now samples.now }
-        ensures { status_of result ≡ with_status order table.now code.now samples.now i self.now marks.now p st }
+        ensures { status_of result ≡ with_status K.order table.now code.now samples.now i self.now marks.now p st }
     {
         let bytes = expression(code, st);
         let zero = self.value(bytes, samples, work) == 0;
@@ -107,7 +107,7 @@ impl Core {
         requires sized { (Sized self.now table.now marks.now) × ((i < self.now.count) × (16 ≤ length work.old)) }
         requires here { let p = slice_index_or self.now.threads i nil_place in let st = step_at_place table.now p.at in FitNow p.pace st.kind self.now table.now code.now p st }
         requires tracks { TrackParts self.now samples.now }
-        ensures { status_of result ≡ status_now order table.now code.now samples.now i self.now marks.now }
+        ensures { status_of result ≡ status_now K.order table.now code.now samples.now i self.now marks.now }
     {
         let p = self.threads[i as usize];
         let st = table[p.at as usize];
@@ -138,8 +138,8 @@ impl Core {
         requires fit { AllFit self.now table.now code.now marks.now }
         requires work { 16 ≤ length work.old }
         requires tracks { TrackParts self.now samples.now }
-        ensures ready { ReadyList order table.now code.now samples.now self.now marks.now result.ready self.now.count }
-        ensures over { result.over ≡ over_first order table.now code.now samples.now self.now marks.now self.now.count }
+        ensures ready { ReadyList K.order table.now code.now samples.now self.now marks.now result.ready self.now.count }
+        ensures over { result.over ≡ over_first K.order table.now code.now samples.now self.now marks.now self.now.count }
     {
         let mut ready = [false; 8];
         let mut over = true;

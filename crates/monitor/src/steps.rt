@@ -64,7 +64,7 @@ impl Core {
         requires fit { FitAt Kind.Assign self.old table.now code.now t.place t.step }
         requires small { (t.thread < 8) × (16 ≤ length work.old) }
         requires tracks { TrackParts self.old samples.now }
-        ensures { self.new ≡ assigned order table.now code.now samples.now t.thread self.old marks.now t.place t.step }
+        ensures { self.new ≡ assigned K.order table.now code.now samples.now t.thread self.old marks.now t.place t.step }
     {
         let bytes = expression(code, t.step);
         let value = self.value(bytes, samples, work);
@@ -90,8 +90,8 @@ impl Core {
         requires fit { FitAt Kind.If self.old table.now code.now t.place t.step }
         requires small { (t.thread < 8) × (16 ≤ length work.old) }
         requires tracks { TrackParts self.old samples.now }
-        ensures core { self.new ≡ branched order table.now code.now samples.now t.thread self.old marks.old t.place t.step }
-        ensures marks { marks.new ≡ opened t.thread marks.old t.place (branch_level order code.now t.thread self.old marks.old t.place t.step) }
+        ensures core { self.new ≡ branched K.order table.now code.now samples.now t.thread self.old marks.old t.place t.step }
+        ensures marks { marks.new ≡ opened t.thread marks.old t.place (branch_level K.order code.now t.thread self.old marks.old t.place t.step) }
     {
         let bytes = expression(code, t.step);
         let base = t.thread * 16;
@@ -158,7 +158,7 @@ impl Core {
         requires few { (self.now.variables ≤ 64) × (self.now.ntracks ≤ 8) }
         requires small { (t.thread < 8) × ((16 ≤ length work.old) × (self.now.turns ≤ 1000000)) }
         requires tracks { TrackParts self.now samples.now }
-        ensures { result ≡ new_entry order code.now samples.now t.thread self.now t.step }
+        ensures { result ≡ new_entry K.order code.now samples.now t.thread self.now t.step }
     {
         let bytes = expression(code, t.step);
         let open = K::flows(
@@ -193,8 +193,8 @@ impl Core {
         requires fit { (FitAt Kind.Put self.old table.now code.now t.place t.step) × (t.place.depth ≤ 16) }
         requires small { (t.thread < 8) × (16 ≤ length work.old) }
         requires tracks { TrackParts self.old samples.now }
-        ensures core { self.new ≡ put_core order table.now code.now samples.now t.thread self.old marks.now t.place t.step }
-        ensures entries { entries.new ≡ put_entries order table.now code.now samples.now t.thread self.old marks.now t.place t.step entries.old }
+        ensures core { self.new ≡ put_core K.order table.now code.now samples.now t.thread self.old marks.now t.place t.step }
+        ensures entries { entries.new ≡ put_entries K.order table.now code.now samples.now t.thread self.old marks.now t.place t.step entries.old }
     {
         let h = t.step.number as usize;
         if K::flows(
@@ -293,7 +293,7 @@ impl Core {
         requires fit { Fit self.old table.now code.now marks.old entries.old i }
         requires work { 16 ≤ length work.old }
         requires tracks { TrackParts self.old samples.now }
-        ensures { mem self.new marks.new entries.new ≡ after_turn order table.now code.now samples.now i (mem self.old marks.old entries.old) }
+        ensures { mem self.new marks.new entries.new ≡ after_turn K.order table.now code.now samples.now i (mem self.old marks.old entries.old) }
     {
         let t = self.turn_at(i, table);
         match (t.place.pace, t.step.kind) {
@@ -328,7 +328,7 @@ impl Core {
     )
         requires runs { RunningMem table.now code.now samples.now (mem self.old marks.old entries.old) }
         requires thread { (i < self.old.count) × ((self.old.turns < 1000000) × (16 ≤ length work.old)) }
-        ensures { (sc : Script) (s : State) → Runs sc table.now code.now samples.now (mem self.old marks.old entries.old) s → Runs sc table.now code.now samples.now (mem self.new marks.new entries.new) (take_turn (rules order sc) s (some i)) }
+        ensures { (sc : Script) (s : State) → Runs sc table.now code.now samples.now (mem self.old marks.old entries.old) s → Runs sc table.now code.now samples.now (mem self.new marks.new entries.new) (take_turn (rules K.order sc) s (some i)) }
     {
         let turns = self.turns;
         self.step::<K>(i, table, code, marks, samples, entries, work);
@@ -350,7 +350,7 @@ impl Core {
         requires chosen { Within chosen self.old.count }
         requires turns { self.old.turns < 1000000 }
         requires work { 16 ≤ length work.old }
-        ensures { (sc : Script) (s : State) → Runs sc table.now code.now samples.now (mem self.old marks.old entries.old) s → Runs sc table.now code.now samples.now (mem self.new marks.new entries.new) (take_turn (rules order sc) s (answered chosen)) }
+        ensures { (sc : Script) (s : State) → Runs sc table.now code.now samples.now (mem self.old marks.old entries.old) s → Runs sc table.now code.now samples.now (mem self.new marks.new entries.new) (take_turn (rules K.order sc) s (answered chosen)) }
     {
         match chosen {
             Some(i) => self.turn_of::<K>(i as usize, table, code, marks, samples, entries, work),

@@ -145,7 +145,7 @@ impl Core {
     fn level_one<K: Lattice>(&self, op: Op, from: u32) -> u32
         requires few { (self.now.variables ≤ 64) × (self.now.ntracks ≤ 8) }
         requires named { Named self.now.variables self.now.ntracks op }
-        ensures { result ≡ joined_one order (cell_level self.now) (track_level self.now) (op_of op) from }
+        ensures { result ≡ joined_one K.order (cell_level self.now) (track_level self.now) (op_of op) from }
     {
         match op {
             Op::Variable(x) => K::join(from, self.cells[x as usize].level),
@@ -159,7 +159,7 @@ impl Core {
     pub(crate) fn level<K: Lattice>(&self, code: &[u8]) -> u32
         requires few { (self.now.variables ≤ 64) × (self.now.ntracks ≤ 8) }
         requires good { Good (head_of_core self.now) code.now }
-        ensures { result ≡ level_at order self.now code.now }
+        ensures { result ≡ level_at K.order self.now code.now }
     {
         let mut all = OPEN;
         let mut rest = code;

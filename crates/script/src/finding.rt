@@ -83,7 +83,7 @@ pub(crate) fn front_of(slot: &[u8]) -> &[u8]
 fn next_slot<K: Lattice>(state: State, slot: &[u8]) -> Option<State>
     requires long { length slot.now ≡ 51 }
     requires deep { state.depth ≤ 16 }
-    ensures { MatchOption result (NoNext kind order state slot.now) (Next kind order state slot.now) }
+    ensures { MatchOption result (NoNext K.kind K.order state slot.now) (Next K.kind K.order state slot.now) }
 {
     let len = frame_length(slot);
     if len > SLOT {
@@ -103,7 +103,7 @@ fn next_slot<K: Lattice>(state: State, slot: &[u8]) -> Option<State>
 
 // What the script declares that a slab of any bytes holds; None where it holds no script of the kind K.
 pub fn holds<K: Lattice>(slab: &[u8]) -> Option<Declarations>
-    ensures { HoldsGives kind order slab.now result }
+    ensures { HoldsGives K.kind K.order slab.now result }
 {
     if slab.len() < SLAB {
         return None;

@@ -30,7 +30,7 @@ fn slot_of(line: &[u8], number: u16) -> Result<Slot, LineFault>
 fn take_line<K: Lattice>(state: State, line: &[u8]) -> Result<(State, Slot), ScriptFault>
     requires deep { state.depth ≤ 16 }
     requires few { state.frames ≤ 512 }
-    ensures { MatchResult result (λ p. Took kind order state (whole_line (line_bytes (some line.now))) p.0 p.1) (Refuses kind order state (whole_line (line_bytes (some line.now)))) }
+    ensures { MatchResult result (λ p. Took K.kind K.order state (whole_line (line_bytes (some line.now))) p.0 p.1) (Refuses K.kind K.order state (whole_line (line_bytes (some line.now)))) }
 {
     let number = state.frames + 1;
     let slot = slot_of(line, number)?;
@@ -52,7 +52,7 @@ fn take_line<K: Lattice>(state: State, line: &[u8]) -> Result<(State, Slot), Scr
 // Puts the frames of the lines into the first slots of a slab, to the first fault.
 fn fill<K: Lattice>(lines: &[u8], slab: &mut [u8]) -> Result<State, ScriptFault>
     requires { 26112 ≤ length slab.old }
-    ensures { MatchResult result (Fills kind order lines.now slab.old slab.new) (Fails kind order lines.now) }
+    ensures { MatchResult result (Fills K.kind K.order lines.now slab.old slab.new) (Fails K.kind K.order lines.now) }
 {
     let mut state = State::at_first();
     let mut rest = lines;
@@ -84,7 +84,7 @@ fn fill<K: Lattice>(lines: &[u8], slab: &mut [u8]) -> Result<State, ScriptFault>
 
 // Reads a script into a slab: the frames in their slots and zeros behind them, or a refusal and nothing but zeros.
 fn read_into<K: Lattice>(lines: &[u8], slab: &mut [u8]) -> Result<Accepted<K>, RunFault>
-    ensures { ReadGives kind order lines.now slab.old slab.new result }
+    ensures { ReadGives K.kind K.order lines.now slab.old slab.new result }
 {
     if slab.len() < SLAB {
         return Err(RunFault::NoState);
@@ -108,7 +108,7 @@ fn read_into<K: Lattice>(lines: &[u8], slab: &mut [u8]) -> Result<Accepted<K>, R
 // Reads a script of the kind K into a slab of at least 26,112 bytes: a frame a slot of 51 bytes, zeros behind it.
 // A refusal of the lines leaves the slab zero, a slab that is too short is left as it was.
 pub fn read<K: Lattice>(lines: &[u8], slab: &mut [u8]) -> Result<Accepted<K>, RunFault>
-    ensures { Reads kind order lines.now slab.old slab.new result }
+    ensures { Reads K.kind K.order lines.now slab.old slab.new result }
 {
     read_into::<K>(lines, slab)
 }

@@ -58,7 +58,7 @@ fn is_next_of(i: u8, seen: u8, declared: u8) -> bool
 
 // Whether a header is in its ranges, and of this kind of levels.
 fn in_range<K: Lattice>(head: Head) -> bool
-    ensures { result ≡ head_in_range kind (head_of head) }
+    ensures { result ≡ head_in_range K.kind (head_of head) }
 {
     (head.version == 1)
         & ((head.kind == K::number())
@@ -159,7 +159,7 @@ impl State {
 
     // Whether a level is of the kind; before the header there is no kind yet, so every level passes.
     fn allows<K: Lattice>(self, level: u32) -> bool
-        ensures { result ≡ has_level order (phase_of self) level }
+        ensures { result ≡ has_level K.order (phase_of self) level }
     {
         match self.stage {
             Stage::Start => true,
@@ -229,7 +229,7 @@ impl State {
     }
 
     fn header<K: Lattice>(self, head: Head) -> Result<State, Cause>
-        ensures { Passes (numbered 3 (head_in_range kind (head_of head)) ∷ numbered 5 (is_start (phase_of self)) ∷ []) self (m-header (head_of head)) result }
+        ensures { Passes (numbered 3 (head_in_range K.kind (head_of head)) ∷ numbered 5 (is_start (phase_of self)) ∷ []) self (m-header (head_of head)) result }
     {
         if !in_range::<K>(head) {
             return Err(Cause::Range);
@@ -252,7 +252,7 @@ impl State {
 
     fn track<K: Lattice>(self, number: u8, level: u32, capacity: u16) -> Result<State, Cause>
         requires { self.depth ≤ 16 }
-        ensures { Passes (numbered 3 (nat_le (self.samples + capacity) 2048) ∷ numbered 4 (has_level order (phase_of self) level) ∷ numbered 5 (is_outside (phase_of self) && is_next number self.tracks self.head.tracks) ∷ []) self (m-track number level capacity) result }
+        ensures { Passes (numbered 3 (nat_le (self.samples + capacity) 2048) ∷ numbered 4 (has_level K.order (phase_of self) level) ∷ numbered 5 (is_outside (phase_of self) && is_next number self.tracks self.head.tracks) ∷ []) self (m-track number level capacity) result }
     {
         let samples = self.samples as u32 + capacity as u32;
         if samples > SAMPLES {
@@ -273,7 +273,7 @@ impl State {
 
     fn channel<K: Lattice>(self, number: u8, level: u32, capacity: u16) -> Result<State, Cause>
         requires { self.depth ≤ 16 }
-        ensures { Passes (numbered 3 (nat_le (self.entries + capacity) 512) ∷ numbered 4 (has_level order (phase_of self) level) ∷ numbered 5 (all_tracks (phase_of self) (seen_of self) && is_next number self.channels self.head.channels) ∷ []) self (m-channel number level capacity) result }
+        ensures { Passes (numbered 3 (nat_le (self.entries + capacity) 512) ∷ numbered 4 (has_level K.order (phase_of self) level) ∷ numbered 5 (all_tracks (phase_of self) (seen_of self) && is_next number self.channels self.head.channels) ∷ []) self (m-channel number level capacity) result }
     {
         let entries = self.entries as u32 + capacity as u32;
         if entries > ENTRIES {
@@ -406,7 +406,7 @@ impl State {
     // The state behind a frame but for the count of frames, or what the frame itself is refused for: its first test that fails.
     fn behind<K: Lattice>(self, frame: Frame<'_>) -> Result<State, Cause>
         requires { self.depth ≤ 16 }
-        ensures { Passes (tests kind order (phase_of self) (seen_of self) (read_of frame.entry).frame (read_of frame.entry).whole) self (read_of frame.entry).frame result }
+        ensures { Passes (tests K.kind K.order (phase_of self) (seen_of self) (read_of frame.entry).frame (read_of frame.entry).whole) self (read_of frame.entry).frame result }
     {
         match frame {
             Frame::Header(head) => self.header::<K>(head),
@@ -451,7 +451,7 @@ impl State {
     // The state behind a frame, or what it is refused for; that it is one too many is tested last.
     pub(crate) fn judge<K: Lattice>(self, frame: Frame<'_>) -> Result<State, Cause>
         requires { self.depth ≤ 16 }
-        ensures { Judged kind order self (read_of frame.entry) result }
+        ensures { Judged K.kind K.order self (read_of frame.entry) result }
     {
         let next = self.behind::<K>(frame)?;
         if self.frames >= FRAMES {

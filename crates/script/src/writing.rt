@@ -57,7 +57,7 @@ fn wipe(out: &mut [u8])
 
 // Writes the script that a slab holds; zeros where it holds none or there is no room.
 fn write_from<K: Lattice>(slab: &[u8], out: &mut [u8]) -> Result<usize, RunFault>
-    ensures { WriteGives kind order slab.now out.old out.new result }
+    ensures { WriteGives K.kind K.order slab.now out.old out.new result }
 {
     match holds::<K>(slab) {
         Some(declared) => match put_frames(slab, declared.frames, out) {
@@ -77,7 +77,7 @@ fn write_from<K: Lattice>(slab: &[u8], out: &mut [u8]) -> Result<usize, RunFault
 // Writes the script that a slab holds as lines, and answers how many bytes they are.
 // Where the slab holds no script of the kind K, or its lines do not fit, the output is zero.
 pub fn write<K: Lattice>(slab: &[u8], out: &mut [u8]) -> Result<usize, RunFault>
-    ensures { Writes kind order slab.now out.old out.new result }
+    ensures { Writes K.kind K.order slab.now out.old out.new result }
 {
     write_from::<K>(slab, out)
 }

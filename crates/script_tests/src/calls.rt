@@ -96,7 +96,7 @@ fn writes_listing(rt: &impl Abort, slab: &[u8]) -> Result<(), Fail> {
     assert!(rt; long[139..] == [7u8; 61]);
     let mut exact = [7u8; 139];
     assert_eq!(rt; write::<TwoPoint>(slab, &mut exact).ok(), Some(139));
-    assert!(rt; exact == LISTING);
+    assert!(rt; exact.as_slice() == LISTING);
     not_written(rt, slab, &mut [7u8; 138])
 }
 

@@ -16,20 +16,23 @@ const BEGUN: &[u8] = b"0101010101010102\n0200000000010800\n0300000000000200\n200
 fn comes_back<K: Lattice>(
     rt: &impl Abort,
     heap: Global,
+    case: &str,
     text: &[u8],
     slab: &[u8],
 ) -> Result<(), Fail> {
     let mut out = vec![in heap; 7u8; text.len()]?;
     let written = write::<K>(slab, &mut out);
-    assert!(rt; written.is_ok());
-    assert!(rt; out.as_slice() == text);
+    assert!(rt; written.is_ok(), "{case}");
+    assert!(rt; out.as_slice() == text, "{case}");
     Ok(())
 }
 
-// Reads a text into a slab of sevens: either it comes back, or the refusal is the one expected and the slab then zero.
+// Reads a text into a slab of sevens: either it comes back, or the refusal is the one expected and the slab then zero. What fails
+// names its case.
 fn expect<K: Lattice>(
     rt: &impl Abort,
     heap: Global,
+    case: &str,
     text: &[u8],
     number: u8,
     line: u16,
@@ -37,22 +40,23 @@ fn expect<K: Lattice>(
     let mut slab = [7u8; SLAB];
     match read::<K>(text, &mut slab) {
         Ok(_) => {
-            assert_eq!(rt; number, 0);
-            comes_back::<K>(rt, heap, text, &slab)
+            assert_eq!(rt; number, 0, "{case}");
+            comes_back::<K>(rt, heap, case, text, &slab)
         }
         Err(fault) => {
             let told = fault.refusal();
-            assert_eq!(rt; told.number, number);
-            assert_eq!(rt; told.line, Some(line));
+            assert_eq!(rt; told.number, number, "{case}");
+            assert_eq!(rt; told.line, Some(line), "{case}");
             assert_eq!(rt;
                 told.layer,
                 if number == 1 {
                     Layer::Line
                 } else {
                     Layer::Script
-                }
+                },
+                "{case}"
             );
-            assert!(rt; slab == [0u8; SLAB]);
+            assert!(rt; slab == [0u8; SLAB], "{case}");
             Ok(())
         }
     }
@@ -62,24 +66,25 @@ fn expect<K: Lattice>(
 fn expect_both(
     rt: &impl Abort,
     heap: Global,
+    case: &str,
     mut text: Vec<u8>,
     number: u8,
     line: u16,
 ) -> Result<(), Fail> {
-    expect::<TwoPoint>(rt, heap, &text, number, line)?;
+    expect::<TwoPoint>(rt, heap, case, &text, number, line)?;
     if text.starts_with(b"0101") {
         if let Some(kind) = text.get_mut(5) {
             *kind = b'2';
         }
     }
-    expect::<Bits>(rt, heap, &text, number, line)
+    expect::<Bits>(rt, heap, case, &text, number, line)
 }
 
 fn expect_all(rt: &impl Abort, heap: Global, front: &[u8], cases: &[Case]) -> Result<(), Fail> {
     for (tail, number, line) in cases {
         let mut text = front.to_vec(heap)?;
         text.extend_from_slice(tail.as_bytes())?;
-        expect_both(rt, heap, text, *number, *line).note(*tail)?;
+        expect_both(rt, heap, tail, text, *number, *line)?;
     }
     Ok(())
 }
@@ -391,13 +396,48 @@ fn nesting(rt: HostRuntime) -> Result<(), Fail> {
 #[test]
 fn of_each_kind(rt: HostRuntime) -> Result<(), Fail> {
     let heap = rt.alloc();
-    expect::<TwoPoint>(&rt, heap, b"0101010101010102\n0200000000010000\n", 5, 3)?;
-    expect::<TwoPoint>(&rt, heap, b"0101010101010102\n0200000000020000\n", 4, 2)?;
-    expect::<Bits>(&rt, heap, b"0101020101010102\n02000000FFFF0000\n", 5, 3)?;
-    expect::<Bits>(&rt, heap, b"0101020101010102\n0200000100000000\n", 4, 2)?;
-    expect::<TwoPoint>(&rt, heap, b"0101010101010102\n0101010101010102\n", 5, 2)?;
-    expect::<Bits>(&rt, heap, b"0101010101010102\n", 3, 1)?;
-    expect::<TwoPoint>(&rt, heap, b"0101020101010102\n", 3, 1)
+    expect::<TwoPoint>(
+        &rt,
+        heap,
+        "TwoPoint: 5 at 3",
+        b"0101010101010102\n0200000000010000\n",
+        5,
+        3,
+    )?;
+    expect::<TwoPoint>(
+        &rt,
+        heap,
+        "TwoPoint: 4 at 2",
+        b"0101010101010102\n0200000000020000\n",
+        4,
+        2,
+    )?;
+    expect::<Bits>(
+        &rt,
+        heap,
+        "Bits: 5 at 3",
+        b"0101020101010102\n02000000FFFF0000\n",
+        5,
+        3,
+    )?;
+    expect::<Bits>(
+        &rt,
+        heap,
+        "Bits: 4 at 2",
+        b"0101020101010102\n0200000100000000\n",
+        4,
+        2,
+    )?;
+    expect::<TwoPoint>(
+        &rt,
+        heap,
+        "TwoPoint: 5 at 2",
+        b"0101010101010102\n0101010101010102\n",
+        5,
+        2,
+    )?;
+    expect::<Bits>(&rt, heap, "Bits: 3 at 1", b"0101010101010102\n", 3, 1)?;
+    expect::<TwoPoint>(&rt, heap, "TwoPoint: 3 at 1", b"0101020101010102\n", 3, 1)
 }
 
 // The begun script with so many skips, its thread's end and its last frame, which counts the frames as `last` says.
@@ -414,10 +454,52 @@ fn skips(heap: Global, count: usize, last: &[u8]) -> Result<Vec<u8>, Fail> {
 #[test]
 fn frames(rt: HostRuntime) -> Result<(), Fail> {
     let heap = rt.alloc();
-    expect_both(&rt, heap, skips(heap, 506, b"21\n7F0200\n")?, 0, 0)?;
-    expect_both(&rt, heap, skips(heap, 507, b"21\n7F0201\n")?, 8, 513)?;
-    expect_both(&rt, heap, skips(heap, 507, b"21\n7F0200\n")?, 5, 513)?;
-    expect_both(&rt, heap, skips(heap, 508, b"3\n")?, 1, 513)?;
-    expect_both(&rt, heap, skips(heap, 508, b"30\n")?, 8, 513)?;
-    expect_both(&rt, heap, skips(heap, 508, b"")?, 5, 513)
+    expect_both(
+        &rt,
+        heap,
+        "506 skips: 0 at 0",
+        skips(heap, 506, b"21\n7F0200\n")?,
+        0,
+        0,
+    )?;
+    expect_both(
+        &rt,
+        heap,
+        "507 skips: 8 at 513",
+        skips(heap, 507, b"21\n7F0201\n")?,
+        8,
+        513,
+    )?;
+    expect_both(
+        &rt,
+        heap,
+        "507 skips: 5 at 513",
+        skips(heap, 507, b"21\n7F0200\n")?,
+        5,
+        513,
+    )?;
+    expect_both(
+        &rt,
+        heap,
+        "508 skips: 1 at 513",
+        skips(heap, 508, b"3\n")?,
+        1,
+        513,
+    )?;
+    expect_both(
+        &rt,
+        heap,
+        "508 skips: 8 at 513",
+        skips(heap, 508, b"30\n")?,
+        8,
+        513,
+    )?;
+    expect_both(
+        &rt,
+        heap,
+        "508 skips: 5 at 513",
+        skips(heap, 508, b"")?,
+        5,
+        513,
+    )
 }

@@ -10,7 +10,7 @@ pub returns-in-1 : goal.returns-in-1
 returns-in-1 c =
     let k : get_or c.args.code.now 0 0 ≡ 1 = search rules in
     let l : 5 ≤ length c.args.code.now = search rules in
-    let z = to_z-of_z w32 c.from-be-bytes.result (record { sfits = c.from-be-bytes.type-inv }) ∙ c.from-be-bytes.ensures in
+    let z = to_z-of_z w32 c.from_be_bytes.result (record { sfits = c.from_be_bytes.type_inv }) ∙ c.from_be_bytes.ensures in
     first_is c.args.code.now _ 4 (omega arith) (constant_is c.args.code.now k l ∙ ap (λ n. takes (constant n) 4) (sym z))
 
 pub returns-in-2 : goal.returns-in-2

@@ -7,4 +7,4 @@ use Rattle.codec.proofs.expressions.names_declared.Goals as goal
 
 pub returns : goal.returns
 returns c =
-    ap (λ (e : Expr). declared (head_of c.args.head.now) e) (sym (none_read c.loop-op.rest.now c.in-default.ensures)) ∙ c.loop-op.invariant
+    ap (λ (e : Expr). declared (head_of c.args.head.now) e) (sym (none_read c.loop-op.rest.now c.in_default.ensures)) ∙ c.loop-op.invariant

@@ -51,8 +51,8 @@ returns-in-70 c = via _ c.args.bytes.now (search rules)
 pub returns-in-127 : goal.returns-in-127
 returns-in-127 c = via _ c.args.bytes.now (search rules)
 
-pub returns-in-default : goal.returns-in-default
-returns-in-default c =
+pub returns-in_default : goal.returns-in_default
+returns-in_default c =
     missed _ c.args.bytes.now refl (record {
       not_1 = λ z n. search rules;
       not_2 = λ z n. search rules;

@@ -4,7 +4,7 @@ use Rattle.codec.proofs.lines.read_line.Goals as goal
 
 pub returns-then-line-le-DIGITS : goal.returns-then-line-le-DIGITS
 unfolding line_bytes
-returns-then-line-le-DIGITS c = record { bytes = search rules; slot = c.read-pairs.ensures.slot }
+returns-then-line-le-DIGITS c = record { bytes = search rules; slot = c.read_pairs.ensures.slot }
 
 pub returns-else-line-ge1 : goal.returns-else-line-ge1
 unfolding line_bytes

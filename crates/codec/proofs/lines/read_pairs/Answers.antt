@@ -20,15 +20,15 @@ loop-rest-preserved c =
       zeros_again c.loop-rest.bytes c.loop-rest.len _ c.loop-rest.invariant.3,
     )
 
-pub returns-then-is-empty : goal.returns-then-is-empty
-returns-then-is-empty c =
-    let none = nil_from_length c.loop-rest.rest.now (true-eqb _ 0 c.if-is-empty.ensures) in
+pub returns-then-is_empty : goal.returns-then-is_empty
+returns-then-is_empty c =
+    let none = nil_from_length c.loop-rest.rest.now (true-eqb _ 0 c.if-is_empty.ensures) in
     record {
       bytes = digits_over c.loop-rest.bytes c.loop-rest.rest.now c.loop-rest.len _ none c.loop-rest.invariant.2;
       slot = record { short = omega arith; zeros = zeros_over c.loop-rest.bytes c.loop-rest.len (omega arith) c.loop-rest.invariant.3 };
     }
 
-pub returns-else-is-empty : goal.returns-else-is-empty
-returns-else-is-empty c =
+pub returns-else-is_empty : goal.returns-else-is_empty
+returns-else-is_empty c =
     let one : length c.loop-rest.rest.now ≡ 1 = search rules in
     record { bytes = digits_odd c.loop-rest.bytes c.loop-rest.rest.now c.loop-rest.len _ one c.loop-rest.invariant.2; slot = tt }

@@ -8,6 +8,6 @@ loop-i-init g c = sym (guard_threads_none g.K.Lattice.order c.args.table.now c.a
 
 pub loop-i-preserved : goal.loop-i-preserved
 loop-i-preserved g c =
-    c.guard-of-all.ensures
+    c.guard_of-all.ensures
     ∙ ap (guard_marks g.K.Lattice.order c.args.table.now c.args.marks.now c.args.x (c.loop-i.i * 16) (get_or c.args.self.now.threads c.loop-i.i nil_place).depth) c.loop-i.invariant
     ∙ sym (guard_threads_more g.K.Lattice.order c.args.table.now c.args.marks.now c.args.x c.args.self.now.threads c.loop-i.i)

@@ -8,5 +8,5 @@ use Rattle.monitor.proofs.Core.level.Goals as goal
 pub returns : goal.returns
 returns g c =
     let s = c.args.self.now in
-    let none = ops_none c.loop-op.rest.now c.in-default.ensures in
+    let none = ops_none c.loop-op.rest.now c.in_default.ensures in
     ap (λ (e : Expr). joined g.K.Lattice.order (cell_level s) (track_level s) e c.loop-op.all) (sym none) ∙ c.loop-op.invariant.1

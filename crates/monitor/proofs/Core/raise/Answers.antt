@@ -7,4 +7,4 @@ pub loop-x-init : goal.loop-x-init
 loop-x-init g c = ap (with_cells c.args.self.now) (sym (raised_none g.K.Lattice.order c.args.mask c.args.level c.args.self.now.cells))
 
 pub loop-x-preserved : goal.loop-x-preserved
-loop-x-preserved g c = raise_next g.K.Lattice.order c.args.mask c.args.level c.args.self.now c.loop-x.self c.loop-x.x c.raise-cell.result c.loop-x.invariant c.raise-cell.ensures
+loop-x-preserved g c = raise_next g.K.Lattice.order c.args.mask c.args.level c.args.self.now c.loop-x.self c.loop-x.x c.raise_cell.result c.loop-x.invariant c.raise_cell.ensures

@@ -11,7 +11,7 @@ loop-i-preserved g c =
     let few = c.requires.fit.sized.few in
     let long = c.loop-i.invariant.1 in
     let lt : c.loop-i.i < length c.loop-i.ready = omega arith in (
-      answers_more _ c.loop-i.ready c.loop-i.i c.is-ready.result lt c.loop-i.invariant.0 (c.is-ready.ensures ∙ ap status_is_ready c.status-status.ensures),
-      length-set c.loop-i.ready c.loop-i.i c.is-ready.result ∙ long,
-      (λ j. c.loop-i.invariant.2 j && (c.is-finished-over.ensures ∙ ap status_is_finished c.status-status.ensures) j) ∙ sym (all_more _ c.loop-i.i),
+      answers_more _ c.loop-i.ready c.loop-i.i c.is_ready.result lt c.loop-i.invariant.0 (c.is_ready.ensures ∙ ap status_is_ready c.status-status.ensures),
+      length-set c.loop-i.ready c.loop-i.i c.is_ready.result ∙ long,
+      (λ j. c.loop-i.invariant.2 j && (c.is_finished-over.ensures ∙ ap status_is_finished c.status-status.ensures) j) ∙ sym (all_more _ c.loop-i.i),
     )

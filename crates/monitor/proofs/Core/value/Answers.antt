@@ -62,7 +62,7 @@ pub item-requires : goal.item-requires
 item-requires c =
     let n = c.loop-op.numbers.held in
     let L : Expr → Type 0 = λ z. T (leaves_one n z) in
-    let one = one_left n (subst L (ops_none c.loop-op.rest.now c.in-default.ensures) c.loop-op.invariant.1) in
+    let one = one_left n (subst L (ops_none c.loop-op.rest.now c.in_default.ensures) c.loop-op.invariant.1) in
     let room = c.loop-op.invariant.3 in
     (omega arith, (omega arith, omega arith))
 
@@ -72,10 +72,10 @@ returns c =
     let n = c.loop-op.numbers.held in
     let b = c.loop-op.numbers.base in
     let w = c.loop-op.work in
-    let none = ops_none c.loop-op.rest.now c.in-default.ensures in
+    let none = ops_none c.loop-op.rest.now c.in_default.ensures in
     let L : Expr → Type 0 = λ z. T (leaves_one n z) in
     let one = one_left n (subst L none c.loop-op.invariant.1) in
-    to_z-of_z w32 c.item.result (record { sfits = c.item.type-inv })
+    to_z-of_z w32 c.item.result (record { sfits = c.item.type_inv })
     ∙ c.item.ensures (pos 0)
     ∙ top_is b n w one
     ∙ ap (λ (z : Expr). top (eval (cells_of s) (tracks_of s c.args.samples.now) z (numbers_from b n w))) (sym none)

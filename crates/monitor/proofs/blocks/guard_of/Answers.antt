@@ -8,6 +8,6 @@ loop-d-init g c = sym (guard_marks_none g.K.Lattice.order c.args.table.now c.arg
 
 pub loop-d-preserved : goal.loop-d-preserved
 loop-d-preserved g c =
-    c.guard-one-all.ensures
+    c.guard_one-all.ensures
     ∙ ap (guard_one g.K.Lattice.order c.args.table.now c.args.marks.now c.args.x (c.args.base + c.loop-d.d)) c.loop-d.invariant
     ∙ sym (guard_marks_more g.K.Lattice.order c.args.table.now c.args.marks.now c.args.x c.args.base c.loop-d.d c.args.from)

@@ -16,6 +16,6 @@ returns c =
     let left : s.at < min (length s.picks.now) 4096 = omega (arith, c.min-end.ensures, c.if-self-end.false) in
     let e = sym (one_left s.picks.now s.at left) in
     record {
-      answer = c.ready-pick.ensures ∙ ap (λ (l : List ℕ). (pick_list l c.args.ready.now).0) e;
+      answer = c.ready_pick.ensures ∙ ap (λ (l : List ℕ). (pick_list l c.args.ready.now).0) e;
       next = ap (λ (l : List ℕ). record { picks = s.picks; at = place_after l s.at }) e;
     }

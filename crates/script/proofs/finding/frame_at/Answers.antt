@@ -14,6 +14,6 @@ pub returns : goal.returns
 returns c =
     let a = c.args.slot * 51 in
     let n : a + 51 - a ≡ 51 = omega arith in
-    found c.args.slab.now c.args.slot c.read-frame.result
-    (c.read-frame.ensures ∙ ap frame_of c.front-of.ensures.bytes ∙ ap (λ (m : ℕ). frame_of (take (length_at (take m (drop a c.args.slab.now))) (take m (drop a c.args.slab.now)))) n
+    found c.args.slab.now c.args.slot c.read_frame.result
+    (c.read_frame.ensures ∙ ap frame_of c.front_of.ensures.bytes ∙ ap (λ (m : ℕ). frame_of (take (length_at (take m (drop a c.args.slab.now))) (take m (drop a c.args.slab.now)))) n
     ∙ sym (in_slab c.args.slab.now c.args.slot c.if-slot-ge-FRAMES.false c.if-slab-at.false))

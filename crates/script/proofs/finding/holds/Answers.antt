@@ -6,8 +6,8 @@ use Rattle.script.proofs.finding.holds.Goals as goal
 
 pub loop-state-init : goal.loop-state-init
 loop-state-init g c =
-    let s = c.at-first-state.ensures in
-    found_first g.K.Lattice.kind g.K.Lattice.order c.args.slab.now c.at-first-state.result s.phase s.seen s.deep
+    let s = c.at_first-state.ensures in
+    found_first g.K.Lattice.kind g.K.Lattice.order c.args.slab.now c.at_first-state.result s.phase s.seen s.deep
 
 pub returns-then-state-ge-FRAMES : goal.returns-then-state-ge-FRAMES
 returns-then-state-ge-FRAMES g c =
@@ -32,11 +32,11 @@ returns-in-None g c =
     found_none g.K.Lattice.kind k c.args.slab.now s c.loop-state.invariant c.loop-state-test.ensures
     (subst (λ (m : ℕ). NoNext g.K.Lattice.kind k s (take m (drop a c.args.slab.now))) n c.in-None.ensures)
 
-pub returns-then-is-zero : goal.returns-then-is-zero
-returns-then-is-zero g c =
+pub returns-then-is_zero : goal.returns-then-is_zero
+returns-then-is_zero g c =
     subst (Held g.K.Lattice.kind g.K.Lattice.order c.args.slab.now) (sym c.declarations.ensures)
-    (found_all g.K.Lattice.kind g.K.Lattice.order c.args.slab.now c.loop-state.state c.loop-state.invariant c.if-slab-lt-SLAB.false c.loop-state-test.ensures c.if-is-zero.ensures)
+    (found_all g.K.Lattice.kind g.K.Lattice.order c.args.slab.now c.loop-state.state c.loop-state.invariant c.if-slab-lt-SLAB.false c.loop-state-test.ensures c.if-is_zero.ensures)
 
-pub returns-else-is-zero : goal.returns-else-is-zero
-returns-else-is-zero g c =
-    found_more g.K.Lattice.kind g.K.Lattice.order c.args.slab.now c.loop-state.state c.loop-state.invariant c.loop-state-test.ensures c.if-is-zero.ensures
+pub returns-else-is_zero : goal.returns-else-is_zero
+returns-else-is_zero g c =
+    found_more g.K.Lattice.kind g.K.Lattice.order c.args.slab.now c.loop-state.state c.loop-state.invariant c.loop-state-test.ensures c.if-is_zero.ensures

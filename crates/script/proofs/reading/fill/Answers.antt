@@ -6,16 +6,16 @@ use Rattle.script.proofs.reading.fill.Goals as goal
 
 pub loop-rest-init : goal.loop-rest-init
 loop-rest-init g c =
-    let s = c.at-first-state.ensures in
-    begins g.K.Lattice.kind g.K.Lattice.order c.args.lines.now c.args.slab.now c.at-first-state.result s.phase s.seen s.deep
+    let s = c.at_first-state.ensures in
+    begins g.K.Lattice.kind g.K.Lattice.order c.args.lines.now c.args.slab.now c.at_first-state.result s.phase s.seen s.deep
 
-pub returns-in-err-next : goal.returns-in-err-next
-returns-in-err-next g c =
-    let p = err_from_is_err_and c.from-residual.result c.from-residual.ensures.1 in
+pub returns-in_err-next-in-Some : goal.returns-in_err-next-in-Some
+returns-in_err-next-in-Some g c =
+    let p = err_from_is_err_and c.from_residual.result c.from_residual.ensures.1 in
     let found = c.in-Some.ensures in
     rw (p.1, p.2)
     (fails_line g.K.Lattice.kind g.K.Lattice.order c.args.lines.now c.loop-rest.rest.now c.in-Some.line.now c.in-Some.after.now c.loop-rest.slab c.args.slab.now c.loop-rest.state _ c.loop-rest.invariant
-    found.1 found.0 c.in-err-next.ensures)
+    found.1 found.0 c.in_err-next-in-Some.ensures)
 
 pub loop-rest-smaller : goal.loop-rest-smaller
 loop-rest-smaller g c = omega (arith, simp length-append at (ap length c.in-Some.ensures.1))
@@ -24,9 +24,9 @@ pub loop-rest-preserved : goal.loop-rest-preserved
 loop-rest-preserved g c =
     let found = c.in-Some.ensures in
     let room : 26112 ≤ length c.loop-rest.slab = search rules in
-    let long : length c.in-ok-next.slot.bytes ≡ 51 = search rules in
-    steps g.K.Lattice.kind g.K.Lattice.order c.args.lines.now c.loop-rest.rest.now c.in-Some.line.now c.in-Some.after.now c.loop-rest.slab c.args.slab.now c.loop-rest.state c.in-ok-next.next c.in-ok-next.slot room long
-    c.loop-rest.invariant found.1 found.0 c.in-ok-next.ensures _ _ c.copy-from-slice.ensures.after (omega arith)
+    let long : length c.in_ok-next-in-Some.slot.bytes ≡ 51 = search rules in
+    steps g.K.Lattice.kind g.K.Lattice.order c.args.lines.now c.loop-rest.rest.now c.in-Some.line.now c.in-Some.after.now c.loop-rest.slab c.args.slab.now c.loop-rest.state c.in_ok-next-in-Some.next c.in_ok-next-in-Some.slot room long
+    c.loop-rest.invariant found.1 found.0 c.in_ok-next-in-Some.ensures _ _ c.copy_from_slice.ensures.after (omega arith)
 
 pub returns-in-None : goal.returns-in-None
 returns-in-None g c =

@@ -16,7 +16,7 @@ loop-b-preserved c =
     let room : c.args.n + 2 * length c.args.bytes.now < length c.args.out.now = omega (arith, c.requires.within, c.if-out-n.false) in (
       omega (arith, c.loop-b.invariant.0),
       byte_again c.args.bytes.now c.args.out.now c.loop-b.out c.args.n c.loop-b.b-index c.loop-b.at _ _ c.loop-b-test.true c.loop-b.invariant.0 room c.requires.within
-          c.digits-of-high.ensures.high c.digits-of-high.ensures.low c.loop-b.invariant.1,
+          c.digits_of-high.ensures.high c.digits_of-high.ensures.low c.loop-b.invariant.1,
     )
 
 pub returns : goal.returns
