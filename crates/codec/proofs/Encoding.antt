@@ -1,7 +1,7 @@
 -- Frames and their bytes: each has one of the other.
 use Rattle.std.proofs.Common.{◌≡◌, ℕ, zero, suc, ◌+◌, ◌*◌, ◌/◌, ◌%◌, ◌^◌, ◌<◌, Bool, true, false, cond, ◌&&◌, eqb, leb, List, [], ◌∷◌, ◌++◌, length, drop, ℤ, sym, refl, ap, ◌∙◌, subst, arith, w32, to_z, of_z}
 use mathlib.Core.Option.{Option, none, some}
-use Rattle.std.specs.List.{AllByRecursion as All}
+use Rattle.std.specs.List.{AllByRecursion}
 use Rattle.std.proofs.lemmas.Int.{of_z-to_z, to_z-of_z}
 use Rattle.std.proofs.lemmas.Bool.{eqb-true, le-leb, leb-true, and_parts}
 use mir.Facts.{sfits_to_z, Fits-bits}
@@ -17,7 +17,7 @@ use Rattle.codec.specs.Frames.Frame.{header, track, channel, thread, thread_end,
 -- From bytes to a frame and back
 
 -- What every row of a table makes true, the table does.
-look_up_makes : {A : Type 0} (P : ℕ → A → Type 0) (bs : List ℕ) (a : A) (rs : List (Row A)) → All (λ (r : Row A). r.says bs ≡ some a → P r.code a) rs → (c : ℕ) → look_up rs c bs ≡ some a → P c a
+look_up_makes : {A : Type 0} (P : ℕ → A → Type 0) (bs : List ℕ) (a : A) (rs : List (Row A)) → AllByRecursion (λ (r : Row A). r.says bs ≡ some a → P r.code a) rs → (c : ℕ) → look_up rs c bs ≡ some a → P c a
 look_up_makes P bs a [] h c e = let z : ◌≡◌ {A = ℕ} 0 1 = cc in absurd (omega arith)
 look_up_makes {A} P bs a (r ∷ rs) h c e = go (eqb c r.code) refl (look_up_makes P bs a rs h.1 c) e
   where
@@ -270,7 +270,7 @@ whole_expr e = record { ops = e; whole = true }
 in_front_of : (o : Op) (e : Expr) (d : Decoded) → d ≡ whole_expr e → ◌≡◌ {A = Decoded} (record { ops = o ∷ d.ops; whole = d.whole }) (whole_expr (o ∷ e))
 in_front_of o e d h = λ i. record { ops = o ∷ (h i).ops; whole = (h i).whole }
 
-decode_bytes : (e : Expr) → All OpFits e → decode 0 (expr_bytes e) ≡ whole_expr e
+decode_bytes : (e : Expr) → AllByRecursion OpFits e → decode 0 (expr_bytes e) ≡ whole_expr e
 unfolding decode operation
 decode_bytes [] h = refl
 decode_bytes (constant z ∷ e) h =
@@ -375,14 +375,14 @@ took_fits c bs t h e = look_up_makes (λ k t. OpFits t.op) bs t operations (
         let n : number_4 a b c d < 2 ^ 32 = omega arith in
         subst (λ (x : Taken). OpFits x.op) s (sfits_to_z {w = w32} {n = number_4 a b c d} (Fits-bits 32 tt n))
 
-decode_fits : (bs : List ℕ) (n : ℕ) → Bytes bs → All OpFits (decode n bs).ops
+decode_fits : (bs : List ℕ) (n : ℕ) → Bytes bs → AllByRecursion OpFits (decode n bs).ops
 unfolding decode
 decode_fits [] zero h = tt
 decode_fits [] (suc n) h = tt
 decode_fits (b ∷ bs) (suc n) h = decode_fits bs n h.1
 decode_fits (b ∷ bs) zero h = go (operation b bs) refl (λ n. decode_fits bs n h.1)
   where
-    go : (o : Option Taken) → operation b bs ≡ o → ((n : ℕ) → All OpFits (decode n bs).ops) → All OpFits (and_then o (λ n. decode n bs)).ops
+    go : (o : Option Taken) → operation b bs ≡ o → ((n : ℕ) → AllByRecursion OpFits (decode n bs).ops) → AllByRecursion OpFits (and_then o (λ n. decode n bs)).ops
     go none eo ih = tt
     go (some t) eo ih = (took_fits b bs t h.1 eo, ih t.bytes)
 

@@ -2,14 +2,14 @@
 use Rattle.std.proofs.Common.{◌≡◌, ℕ, ◌+◌, ◌*◌, ◌/◌, ◌%◌, ◌<◌, ◌≤◌, Bool, true, false, cond, ◌&&◌, eqb, ltb, leb, List, [], ◌∷◌, ◌++◌, map, length, sym, refl, ap, ◌∙◌, subst, ap₂, arith}
 use mathlib.Core.Option
 use mathlib.Core.Option.{Option, none, some}
-use Rattle.std.specs.List.{AllByRecursion as All}
+use Rattle.std.specs.List.{AllByRecursion}
 use Rattle.std.proofs.lemmas.Bool.{lt-ltb, le-leb, ne_eqb, ltb-true, eqb-true, leb-true, and_parts}
 use Rattle.std.proofs.lemmas.Bool.Decides.{nat_tests}
 use Rattle.codec.specs.Lines.{worth, digit, in_front, lines, pairs, line_bytes, split, digits, written}
 
 -- A frame that can be written: 1 to 51 bytes.
 abbrev pub Sized : List ℕ → Type 0
-Sized f = (1 ≤ length f) × (length f ≤ 51) × All (λ b. b < 256) f
+Sized f = (1 ≤ length f) × (length f ≤ 51) × AllByRecursion (λ b. b < 256) f
 
 worth_digit : (n : ℕ) → n < 16 → worth (digit n) ≡ n
 unfolding worth digit
@@ -22,7 +22,7 @@ digit_above n = grind (arith, nat_tests)
 no_end : (n : ℕ) → eqb (digit n) 0x0A ≡ false
 no_end n = ne_eqb (digit n) 10 (λ e. omega (arith, digit_above n))
 
-pairs_digits : (f : List ℕ) → All (λ b. b < 256) f → pairs (digits f) ≡ some f
+pairs_digits : (f : List ℕ) → AllByRecursion (λ b. b < 256) f → pairs (digits f) ≡ some f
 unfolding pairs digits
 pairs_digits [] h = refl
 pairs_digits (b ∷ bs) h =
@@ -43,7 +43,7 @@ unfolding lines digits in_front
 lines_digits [] r = refl
 lines_digits (b ∷ bs) r = rw (no_end (b / 16), no_end (b % 16), lines_digits bs r)
 
-pub split_written : (fs : List (List ℕ)) → All Sized fs → split (written fs) ≡ map some fs
+pub split_written : (fs : List (List ℕ)) → AllByRecursion Sized fs → split (written fs) ≡ map some fs
 unfolding split written lines
 split_written [] h = refl
 split_written (f ∷ fs) h = ap (map line_bytes) (lines_digits f (written fs)) ∙ ap₂ {A = Option (List ℕ)} {B = List (Option (List ℕ))} (λ x xs. x ∷ xs) (line_digits f h.0) (split_written fs h.1)
@@ -101,7 +101,7 @@ lines_back (b ∷ bs) ls e = end_back b bs (eqb b 0x0A) refl ls e (lines_back bs
 -- Digits without a fault.
 record Digits (ds f : List ℕ) : Type 0 where
   is : digits f ≡ ds
-  small : All (λ b. b < 256) f
+  small : AllByRecursion (λ b. b < 256) f
 
 pairs_more : (a b : ℕ) (ds : List ℕ) (t : Bool) → (ltb (worth a) 16 && ltb (worth b) 16) ≡ t → (o : Option (List ℕ)) → ((g : List ℕ) → o ≡ some g → Digits ds g) → (f : List ℕ)
     → cond t (Option.map (λ bs. (16 * worth a + worth b) ∷ bs) o) none ≡ some f → Digits (a ∷ b ∷ ds) f
@@ -142,7 +142,7 @@ line_back (some ds) f e = go (leb 1 (length ds) && leb (length ds) 102) refl e
         let high = leb-true (length ds) 102 t.1 in
         record { is = ap (λ (x : List ℕ). some x) (sym m.is); sized = (omega (arith, length_digits f, ap length m.is), omega (arith, length_digits f, ap length m.is), m.small) }
 
-lines_all : (os : List (Option (List ℕ))) (fs : List (List ℕ)) → map line_bytes os ≡ map some fs → (os ≡ map some (map digits fs)) × All Sized fs
+lines_all : (os : List (Option (List ℕ))) (fs : List (List ℕ)) → map line_bytes os ≡ map some fs → (os ≡ map some (map digits fs)) × AllByRecursion Sized fs
 lines_all [] [] e = (refl, tt)
 lines_all [] (f ∷ fs) e = let z : ◌≡◌ {A = ℕ} 0 1 = cc in absurd (omega arith)
 lines_all (o ∷ os) [] e = let z : ◌≡◌ {A = ℕ} 0 1 = cc in absurd (omega arith)
@@ -158,7 +158,7 @@ unfolding written
 unlines_written [] = refl
 unlines_written (f ∷ fs) = ap (λ (r : List ℕ). digits f ++ (0x0A ∷ r)) (unlines_written fs)
 
-pub written_split : (bytes : List ℕ) (fs : List (List ℕ)) → split bytes ≡ map some fs → (written fs ≡ bytes) × All Sized fs
+pub written_split : (bytes : List ℕ) (fs : List (List ℕ)) → split bytes ≡ map some fs → (written fs ≡ bytes) × AllByRecursion Sized fs
 unfolding split Back
 written_split bytes fs e =
     let t = lines_all (lines bytes) fs e in

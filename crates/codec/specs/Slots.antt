@@ -1,7 +1,7 @@
 -- Slots of 51 bytes: a frame's bytes, zeros behind them.
 use Rattle.std.specs.Prelude.{◌≡◌, ℕ, ◌-◌, ◌≤◌, false, List, ◌++◌, length, take, replicate, Some, None, Option, ◌==◌}
 use Rattle.std.proofs.Math.Option.{Option as Perhaps, none, some}
-use Rattle.std.specs.List.{AllByRecursion as All}
+use Rattle.std.specs.List.{AllByRecursion}
 use Rattle.codec.specs.declared.lines.Slot.{Slot}
 
 -- What a function of the code answers, as the definition's option.
@@ -24,4 +24,4 @@ pub record Padded (s : Slot) : Type 0 where
 
 -- No byte ends a line.
 abbrev pub no_end : List ℕ → Type 0
-no_end bs = All (λ b. (b == 0x0A) ≡ false) bs
+no_end bs = AllByRecursion (λ b. (b == 0x0A) ≡ false) bs

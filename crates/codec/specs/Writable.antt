@@ -1,7 +1,7 @@
 -- What can be written: the frames whose fields fit their bytes.
 use Rattle.std.specs.Prelude.{ℕ, ◌<◌, ◌≤◌, List, length, FitsSigned}
 use Rattle.std.specs.Int.{w32}
-use Rattle.std.specs.List.{AllByRecursion as All}
+use Rattle.std.specs.List.{AllByRecursion}
 use Rattle.codec.specs.Expressions.{Op, Expr, expr_bytes}
 use Rattle.codec.specs.Expressions.Op.{constant, variable, sample, held, binary, unary}
 use Rattle.codec.specs.Frames.{Frame, frame_bytes}
@@ -9,7 +9,7 @@ use Rattle.codec.specs.Frames.Frame.{header, track, channel, thread, thread_end,
 
 -- Numbers that are bytes.
 abbrev pub Bytes : List ℕ → Type 0
-Bytes bs = All (λ b. b < 256) bs
+Bytes bs = AllByRecursion (λ b. b < 256) bs
 
 -- Constants are signed 32-bit.
 abbrev pub OpFits : Op → Type 0
@@ -22,7 +22,7 @@ OpFits (unary u) = Unit {0}
 
 -- An expression of 1 to 48 bytes.
 abbrev pub ExprFits : Expr → Type 0
-ExprFits e = (1 ≤ length (expr_bytes e)) × (length (expr_bytes e) ≤ 48) × All OpFits e
+ExprFits e = (1 ≤ length (expr_bytes e)) × (length (expr_bytes e) ≤ 48) × AllByRecursion OpFits e
 
 -- The expression of a frame, if it has one, fits.
 abbrev pub FrameFits : Frame → Type 0

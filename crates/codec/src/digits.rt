@@ -1,6 +1,6 @@
 // Hexadecimal digits, 0 to 9 and A to F: what each is worth, by a table, and the two digits of a byte.
 ghost use Rattle.std.specs.Prelude.{◌≡◌, ◌/◌, ◌%◌, ◌<◌};
-ghost use Rattle.codec.specs.Lines.{worth as worth-of, digit as digit-of};
+ghost use Rattle.codec.specs.Lines.{worth as worth_of, digit as digit_of};
 
 // The worth of each of the 256 bytes, sixteen a row; 255 (FF) where the byte is no digit.
 const WORTH: &[u8; 256] = b"\
@@ -23,14 +23,14 @@ const WORTH: &[u8; 256] = b"\
 
 // What a byte is worth as a digit.
 pub fn worth(byte: u8) -> u8
-    ensures { result ≡ worth-of byte }
+    ensures { result ≡ worth_of byte }
 {
     WORTH[byte as usize]
 }
 
 fn digit(worth: u8) -> u8
     requires { worth < 16 }
-    ensures { result ≡ digit-of worth }
+    ensures { result ≡ digit_of worth }
 {
     if worth < 10 {
         worth + b'0'
@@ -41,8 +41,8 @@ fn digit(worth: u8) -> u8
 
 // The two digits of a byte, the higher first.
 pub fn digits_of(byte: u8) -> (u8, u8)
-    ensures high { result.0 ≡ digit-of (byte / 16) }
-    ensures low { result.1 ≡ digit-of (byte % 16) }
+    ensures high { result.0 ≡ digit_of (byte / 16) }
+    ensures low { result.1 ≡ digit_of (byte % 16) }
 {
     (digit(byte / 16), digit(byte % 16))
 }

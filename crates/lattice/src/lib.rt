@@ -1,4 +1,6 @@
 // Kinds of security levels: a level is a 32-bit code, and code 0 is the open level, which flows to every other.
+#![tactic(auto)]
+
 ghost use Rattle.std.specs.Prelude.{◌≡◌, ℕ};
 ghost use Rattle.lattice.specs.Levels.{Levels, Lawful};
 ghost use Rattle.lattice.specs.Orders.{two_point, bit_sets};

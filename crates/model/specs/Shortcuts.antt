@@ -2,7 +2,7 @@
 -- its closed track, which the machine itself does not.
 use Rattle.std.specs.Prelude.{◌≡◌, ℕ, Bool, false, cond, not, ◌||◌, ◌≢◌, List, [], ◌∷◌, map, length, ℤ, pos, slice_index_or}
 use Rattle.std.proofs.Math.Option.{none, some}
-use Rattle.std.specs.List.{AllByRecursion as All}
+use Rattle.std.specs.List.{AllByRecursion}
 use Rattle.lattice.specs.Orders.{two_point}
 use Rattle.codec.specs.Expressions.Op.{variable, held}
 use Rattle.script.specs.Code.{Code, Script}
@@ -102,7 +102,7 @@ shows r sc picks z = (slice_index_or (advance r pick_list (length picks) (set_tr
 
 -- Of a script with valid code: under the changed rules the open channel tells whether 0 or 1 was fed; under the machine's own it does not.
 pub record Leaks (sc : Script) (changed : Rules) (picks : List ℕ) : Type 0 where
-  pub valid : All (Valid (head_of sc) 0) sc.codes
+  pub valid : AllByRecursion (Valid (head_of sc) 0) sc.codes
   pub tells : shows changed sc picks (pos 0) ≢ shows changed sc picks (pos 1)
   pub tells_not : shows (rules two_point sc) sc picks (pos 0) ≡ shows (rules two_point sc) sc picks (pos 1)
 

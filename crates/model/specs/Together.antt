@@ -13,7 +13,7 @@ use Rattle.model.specs.Threads.Pace.{running, idling}
 use Rattle.model.specs.Calls.{begin}
 use Rattle.model.specs.Automaton.{Q, Pool, Input, Output, apart, all_bottom, and_then, carries, react, extract, update}
 use Rattle.model.specs.Automaton.Input.{at_branch, at_merge, at_sync, at_skip, at_assign, at_output}
-use Rattle.std.specs.List.{AllByRecursion as All}
+use Rattle.std.specs.List.{AllByRecursion}
 use Rattle.script.specs.Trees.{Valid, head_of}
 use Rattle.lattice.specs.Orders.{two_point}
 use Rattle.model.specs.Follows.{on_open, first, others, entered, Reached}
@@ -149,6 +149,6 @@ pub data Together (sc : Script) : State → Pool → Type 0 where
 -- verdicts are the automaton's.
 abbrev pub GivesItsVerdicts : Type 0
 GivesItsVerdicts =
-    (sc : Script) → All (Valid (head_of sc) 0) sc.codes →
+    (sc : Script) → AllByRecursion (Valid (head_of sc) 0) sc.codes →
     ((s : State) → Reached sc s → (p : Pool) × Together sc s p) ×
     ((s : State) (p : Pool) → Together sc s p → (i : ℕ) → let t = get_or s.threads i ended in Verdict sc s p i t.code t.pace t.inside)

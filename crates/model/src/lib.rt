@@ -1,4 +1,6 @@
 // The model of the monitor and its theorems. Each function's contract is a theorem: without its proof the crate is refused.
+#![tactic(auto)]
+
 ghost use Rattle.lattice.specs.Levels.{Lawful};
 ghost use Rattle.lattice.specs.Orders.{two_point};
 ghost use Rattle.model.specs.Secrecy.{EveryRunIsSecret, EveryViewIsBlind};

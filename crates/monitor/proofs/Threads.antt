@@ -15,7 +15,7 @@ use Rattle.monitor.specs.declared.Entry.{Entry}
 use Rattle.monitor.specs.declared.Core.{Core}
 use Rattle.monitor.specs.Table.{nil_mark}
 use Rattle.monitor.specs.Flat.{nil_place, nil_port, first_mark, head_of_core, level_of_port, Part}
-use Rattle.monitor.specs.Views.{openers, ThreadView, size_of_port, Apart, Views}
+use Rattle.monitor.specs.Views.{ThreadView, size_of_port, Apart, Views}
 use Rattle.monitor.proofs.Marks.{Same, openers_same, leveled_same}
 
 -- A thread whose marks are as they were.

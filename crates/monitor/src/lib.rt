@@ -1,4 +1,6 @@
 // The monitor's turns: how each thread stands, what a turn does, and turns on end, over a table of a script's steps.
+#![tactic(auto)]
+
 ghost use Rattle.std.specs.Prelude.{◌≡◌, ◌<◌, ◌≤◌, ◌||◌, length, ◌==◌};
 ghost use Rattle.monitor.specs.Flat.{mem};
 ghost use Rattle.script.specs.Code.{Script};

@@ -2,7 +2,7 @@
 ghost use Rattle.std.specs.Prelude.{◌≡◌, ◌<◌, ◌≤◌, length, slice_index_or};
 ghost use Rattle.monitor.specs.Table.{step_at_place};
 ghost use Rattle.monitor.specs.Flat.{nil_place, Sized, SoundStep, FitNow, TrackParts};
-ghost use Rattle.model.specs.Machine.{chosen_status, status_is_ready as model-ready, status_is_finished as model-finished};
+ghost use Rattle.model.specs.Machine.{chosen_status, status_is_ready as model_ready, status_is_finished as model_finished};
 ghost use Rattle.monitor.specs.Statuses.{status_of, if_status, with_status, status_now};
 ghost use Rattle.monitor.specs.Turns.{AllFit, ReadyList, over_first};
 
@@ -26,7 +26,7 @@ fn choose_status(barred: bool, waits: bool) -> Status
 
 // Whether a thread that stands so is ready.
 fn is_ready(status: Status) -> bool
-    ensures { result ≡ model-ready (status_of status) }
+    ensures { result ≡ model_ready (status_of status) }
 {
     match status {
         Status::Ready => true,
@@ -36,7 +36,7 @@ fn is_ready(status: Status) -> bool
 
 // Whether it is finished.
 fn is_finished(status: Status) -> bool
-    ensures { result ≡ model-finished (status_of status) }
+    ensures { result ≡ model_finished (status_of status) }
 {
     match status {
         Status::Finished => true,

@@ -1,4 +1,6 @@
 // Reads a script from standard input, checks it, writes it back, and says in plain words what was done and found.
+#![tactic(auto)]
+
 use crate::account::{account, refused};
 use crate::intake::{Kind, LONGEST, kind_for_text, short_enough};
 use lattice::{Bits, Lattice, TwoPoint};

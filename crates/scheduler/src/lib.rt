@@ -1,4 +1,6 @@
 // Schedulers: told which threads are ready, one answers a thread or a rest.
+#![tactic(auto)]
+
 ghost use Rattle.std.specs.Prelude.{◌≡◌, suc, ◌%◌, false, get_or, if◌then◌else◌, slice_index_or};
 ghost use Rattle.std.proofs.Math.Option.{none, some};
 ghost use Rattle.scheduler.specs.Turns.{Meaning, Obedient, answered};

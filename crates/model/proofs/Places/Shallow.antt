@@ -1,6 +1,6 @@
 -- A walk over a valid script has at most 16 blocks open.
 use Rattle.std.proofs.Common.{ℕ, zero, suc, ◌≤◌, T, ltb, List, [], ◌∷◌, length, drop, arith, ltb→lt}
-use Rattle.std.specs.List.{AllByRecursion as All}
+use Rattle.std.specs.List.{AllByRecursion}
 use Rattle.lattice.specs.Levels.{Levels}
 use Rattle.script.specs.Code.{Code, Script}
 use Rattle.script.specs.Code.Code.{done, skip, assign, put, branch, loop, lock}
@@ -45,7 +45,7 @@ module _ (h : Head) where
   low_code (loop e b c) d r v l = (v.0, low_code b (suc d) _ v.2 (low_code c d r v.3 l))
   low_code (lock m e b c) d r v l = (v.0, low_code b (suc d) _ v.3 (low_code c d r v.4 l))
 
-  low_threads : (cs : List Code) (i : ℕ) (r : List Frame) → All (Valid h 0) cs → Low 0 r → Low 0 (thread_frames i cs r)
+  low_threads : (cs : List Code) (i : ℕ) (r : List Frame) → AllByRecursion (Valid h 0) cs → Low 0 r → Low 0 (thread_frames i cs r)
   low_threads [] i r v l = l
   low_threads (c ∷ cs) i r v l = low_code c 0 _ v.0 (low_threads cs (suc i) r v.1 l)
 

@@ -1,10 +1,10 @@
 -- Variables that are declared: a valid script reads no others.
 use Rattle.std.proofs.Common.{ℕ, suc, Bool, true, ◌&&◌, T, ltb, List, [], ◌∷◌}
-use Rattle.std.specs.List.{AllByRecursion as All}
+use Rattle.std.specs.List.{AllByRecursion}
 use Rattle.codec.specs.Expressions.{Expr}
 use Rattle.codec.specs.Expressions.Op.{constant, variable, sample, held, binary, unary}
 use Rattle.codec.specs.Frames.{Head}
-use Rattle.codec.specs.Sound.{declared as names-declared}
+use Rattle.codec.specs.Sound.{declared as declared_names}
 use Rattle.script.specs.Code.{Code}
 use Rattle.script.specs.Code.Code.{done, skip, assign, put, branch, loop, lock}
 use Rattle.script.specs.Trees.{Valid}
@@ -34,12 +34,12 @@ all_declared n [] = true
 all_declared n (c ∷ cs) = declared n c && all_declared n cs
 
 -- An expression of declared variables and tracks reads declared variables.
-sound_reads : (h : Head) (e : Expr) → T (names-declared h e) → T (reads h.variables e)
+sound_reads : (h : Head) (e : Expr) → T (declared_names h e) → T (reads h.variables e)
 sound_reads h [] d = tt
 sound_reads h (constant z ∷ e) d = sound_reads h e d
-sound_reads h (variable x ∷ e) d = both (ltb x h.variables) (reads h.variables e) (and_left (ltb x h.variables) (names-declared h e) d) (sound_reads h e (and_right (ltb x h.variables) (names-declared h e) d))
-sound_reads h (sample t ∷ e) d = sound_reads h e (and_right (ltb t h.tracks) (names-declared h e) d)
-sound_reads h (held t ∷ e) d = sound_reads h e (and_right (ltb t h.tracks) (names-declared h e) d)
+sound_reads h (variable x ∷ e) d = both (ltb x h.variables) (reads h.variables e) (and_left (ltb x h.variables) (declared_names h e) d) (sound_reads h e (and_right (ltb x h.variables) (declared_names h e) d))
+sound_reads h (sample t ∷ e) d = sound_reads h e (and_right (ltb t h.tracks) (declared_names h e) d)
+sound_reads h (held t ∷ e) d = sound_reads h e (and_right (ltb t h.tracks) (declared_names h e) d)
 sound_reads h (binary b ∷ e) d = sound_reads h e d
 sound_reads h (unary u ∷ e) d = sound_reads h e d
 
@@ -60,6 +60,6 @@ valid_declared h d (lock m e b c) v =
     let n = h.variables in
     both (reads n e) (declared n b && declared n c) (sound_reads h e v.2.0) (both (declared n b) (declared n c) (valid_declared h (suc d) b v.3) (valid_declared h d c v.4))
 
-pub all_valid_declared : (h : Head) (cs : List Code) → All (Valid h 0) cs → T (all_declared h.variables cs)
+pub all_valid_declared : (h : Head) (cs : List Code) → AllByRecursion (Valid h 0) cs → T (all_declared h.variables cs)
 all_valid_declared h [] v = tt
 all_valid_declared h (c ∷ cs) v = both (declared h.variables c) (all_declared h.variables cs) (valid_declared h 0 c v.0) (all_valid_declared h cs v.1)

@@ -1,5 +1,5 @@
 -- The two levels are a lawful kind.
-use Rattle.std.proofs.Common.{◌≡◌, ℕ, max, ltb, leb, arith, le→leb, ltb→lt, lt→ltb, leb→le}
+use Rattle.std.proofs.Common.{◌≡◌, ℕ, max, leb, arith, le→leb, ltb→lt, lt→ltb, leb→le}
 use lib.Dec.{nleb→lt}
 use Rattle.lattice.specs.Levels.{Lawful}
 use Rattle.lattice.specs.Orders.{two_point}
