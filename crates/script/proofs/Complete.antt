@@ -1,8 +1,8 @@
 -- The frames of a valid script are accepted.
-use Rattle.std.proofs.Common.{◌≡◌, ℕ, suc, ◌+◌, ◌<◌, ◌≤◌, Bool, true, false, cond, ◌&&◌, T, eqb, ltb, leb, ◌⊎◌, List, [], ◌∷◌, ◌++◌, length, sym, refl, subst, inr, arith, le→leb, lt→ltb}
+use Rattle.std.proofs.Common.{◌≡◌, ℕ, suc, ◌+◌, ◌<◌, ◌≤◌, Bool, true, false, cond, ◌&&◌, T, eqb, ltb, ◌⊎◌, List, [], ◌∷◌, ◌++◌, length, sym, refl, subst, inr, arith, le→leb, lt→ltb}
 use mathlib.Core.Option.{none, some}
 use lib.Dec.{eqb_refl}
-use Rattle.std.specs.List.{AllByRecursion as All}
+use Rattle.std.specs.List.{AllByRecursion}
 use Rattle.lattice.specs.Levels.{Levels}
 use Rattle.script.specs.Code.{Code, Script}
 use Rattle.script.specs.Code.Code.{done, skip, assign, put, branch, loop, lock}
@@ -82,7 +82,7 @@ abbrev seen : Head → ℕ → ℕ → ℕ → ℕ → ℕ → ℕ → Seen
 seen h t c i tr cr j = record { head = h; tracks = t; channels = c; threads = i; track_room = tr; channel_room = cr; frames = j }
 
 module _ (kind : ℕ) (k : Levels) (m : ℕ) (small : m ≤ 512) (h : Head) where
-  read_threads : (cs : List Code) (i tr cr j : ℕ) → All (Valid h 0) cs → length cs + i ≡ h.threads → j + length (thread_frames i cs (last m ∷ [])) ≡ m
+  read_threads : (cs : List Code) (i tr cr j : ℕ) → AllByRecursion (Valid h 0) cs → length cs + i ≡ h.threads → j + length (thread_frames i cs (last m ∷ [])) ≡ m
       → Reads kind k outside (seen h h.tracks h.channels i tr cr j) (thread_frames i cs (last m ∷ []))
   unfolding read_lines
   read_threads [] i tr cr j v e z =
@@ -97,7 +97,7 @@ module _ (kind : ℕ) (k : Levels) (m : ℕ) (small : m ≤ 512) (h : Head) wher
       (and_both _ _ (and_both _ _ (eqb_refl h.tracks) (eqb_refl h.channels)) (and_both _ _ (eqb_refl i) (lt→ltb i h.threads (omega arith))), tt)
       (omega arith) (read_code kind k m small n c [] (thread_end ∷ rest) v.0 close (suc j) (omega arith))
 
-  read_channels : (ls zs : List ℕ) (r : List Frame) (c tr cr j : ℕ) → length zs ≡ length ls → length ls + c ≡ h.channels → cr + total zs ≤ 512 → All (λ l. T (k.has l)) ls
+  read_channels : (ls zs : List ℕ) (r : List Frame) (c tr cr j : ℕ) → length zs ≡ length ls → length ls + c ≡ h.channels → cr + total zs ≤ 512 → AllByRecursion (λ l. T (k.has l)) ls
       → j + length (store_frames channel c ls zs r) ≡ m
       → ((tr cr j : ℕ) → j + length r ≡ m → Reads kind k outside (seen h h.tracks h.channels 0 tr cr j) r)
       → Reads kind k outside (seen h h.tracks c 0 tr cr j) (store_frames channel c ls zs r)
@@ -109,7 +109,7 @@ module _ (kind : ℕ) (k : Levels) (m : ℕ) (small : m ≤ 512) (h : Head) wher
       (le→leb (cr + y) 512 (omega arith), (has.0, (and_both _ _ (eqb_refl h.tracks) (and_both _ _ (eqb_refl c) (lt→ltb c h.channels (omega arith))), tt)))
       (omega arith) (read_channels ls zs r (suc c) tr (cr + y) (suc j) (omega arith) (omega arith) (omega arith) has.1 (omega arith) f)
 
-  read_tracks : (ls zs : List ℕ) (r : List Frame) (t tr j : ℕ) → length zs ≡ length ls → length ls + t ≡ h.tracks → tr + total zs ≤ 2048 → All (λ l. T (k.has l)) ls
+  read_tracks : (ls zs : List ℕ) (r : List Frame) (t tr j : ℕ) → length zs ≡ length ls → length ls + t ≡ h.tracks → tr + total zs ≤ 2048 → AllByRecursion (λ l. T (k.has l)) ls
       → j + length (store_frames track t ls zs r) ≡ m
       → ((tr j : ℕ) → j + length r ≡ m → Reads kind k outside (seen h h.tracks 0 0 tr 0 j) r)
       → Reads kind k outside (seen h t 0 0 tr 0 j) (store_frames track t ls zs r)

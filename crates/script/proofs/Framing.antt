@@ -4,7 +4,7 @@ use mathlib.Core.Option.{none, some}
 use Rattle.std.proofs.lemmas.Bool.{cases_lt}
 use borrow.Author.Tests.{lt-leb}
 use Rattle.std.proofs.lemmas.List.{drop_at, drop-drop, drop-replicate, drop-take, take-replicate, take-take}
-use Rattle.std.specs.List.{AllByRecursion as All}
+use Rattle.std.specs.List.{AllByRecursion}
 use Rattle.lattice.specs.Levels.{Levels}
 use Rattle.codec.specs.Frames as M
 use Rattle.codec.specs.Frames.{frame_of}
@@ -33,7 +33,7 @@ numbered_past (f ∷ fs) zero h = absurd (omega arith)
 numbered_past (f ∷ fs) (suc i) h = numbered_past fs i (omega arith)
 
 -- A slot behind the frames is zero, and has no frame at its front.
-zero_slot : (slab : List ℕ) (fs : List M.Frame) (i : ℕ) → All Writable fs → length fs ≤ i → i < 512 → take 26112 slab ≡ slab_of fs → slot_at slab i ≡ replicate 51 0
+zero_slot : (slab : List ℕ) (fs : List M.Frame) (i : ℕ) → AllByRecursion Writable fs → length fs ≤ i → i < 512 → take 26112 slab ≡ slab_of fs → slot_at slab i ≡ replicate 51 0
 zero_slot slab fs i w h few e =
     let a = i * 51 in
     let m = length (slots_of fs) in
@@ -66,10 +66,10 @@ cut_slab slab i h = go (ltb i 512)
     go false = refl
 
 module _ (kind : ℕ) (k : Levels) (slab : List ℕ) (fs : List M.Frame) (h : Holds kind k slab fs) (i : ℕ) where
-  frame_held : frame_in slab i ≡ frame_number i fs
+  pub frame_held : frame_in slab i ≡ frame_number i fs
   frame_held = ⊎_elim inside past (cases_lt i (length fs))
     where
-      all : All Writable fs
+      all : AllByRecursion Writable fs
       all = held_writable kind k slab fs h
 
       bound : length fs ≤ 512

@@ -3,7 +3,7 @@ use Rattle.std.proofs.Common.{◌≡◌, ℕ, ◌+◌, ◌-◌, ◌*◌, ◌≤�
 use lib.ListN.{length-replicate}
 use borrow.Rule.Slice.PartMut.{put_mid}
 use Rattle.std.proofs.lemmas.List.{drop-drop, length-take-le, take_at}
-use Rattle.std.specs.List.{AllByRecursion as All}
+use Rattle.std.specs.List.{AllByRecursion}
 use Rattle.lattice.specs.Levels.{Levels}
 use Rattle.codec.specs.Frames.{Frame}
 use Rattle.script.specs.Format.{Seen, Verdict, read_script}
@@ -56,7 +56,7 @@ pub record Kept (kind : ℕ) (k : Levels) (lines slab : List ℕ) (fs : List Fra
 pub kept : (kind : ℕ) (k : Levels) (lines slab rest : List ℕ) (fs : List Frame) → read_script kind k lines ≡ accepted fs → slab ≡ slab_of fs ++ rest → Kept kind k lines slab fs
 kept kind k lines slab rest fs e es =
     let t = text_accepted kind k lines fs e in
-    let all = subst (All Writable) t.frames_are t.writable in
+    let all = subst (AllByRecursion Writable) t.frames_are t.writable in
     let few = t.valid.frames in
     let n : length (slots_of fs) ≤ 26112 = omega (arith, slots_long fs all, ap length t.frames_are) in
     let long : length (slab_of fs) ≡ 26112 = simp (length-append, length-replicate) (omega arith) in
@@ -71,8 +71,8 @@ kept kind k lines slab rest fs e es =
     }
 
 -- A script that a slab holds can be written, and has at most 512 frames.
-pub held_writable : (kind : ℕ) (k : Levels) (slab : List ℕ) (fs : List Frame) → Holds kind k slab fs → All Writable fs
-held_writable kind k slab fs h = let t = text_accepted kind k (text_of fs) fs h.accepts in subst (All Writable) t.frames_are t.writable
+pub held_writable : (kind : ℕ) (k : Levels) (slab : List ℕ) (fs : List Frame) → Holds kind k slab fs → AllByRecursion Writable fs
+held_writable kind k slab fs h = let t = text_accepted kind k (text_of fs) fs h.accepts in subst (AllByRecursion Writable) t.frames_are t.writable
 
 pub held_few : (kind : ℕ) (k : Levels) (slab : List ℕ) (fs : List Frame) → Holds kind k slab fs → length fs ≤ 512
 held_few kind k slab fs h =

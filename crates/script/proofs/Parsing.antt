@@ -1,6 +1,6 @@
 -- What an accepting reading leaves: from every state on, the frames are those of a valid rest of a script.
 use Rattle.std.proofs.Common.{◌≡◌, ℕ, suc, ◌+◌, ◌^◌, ◌<◌, ◌≤◌, Bool, true, false, ◌&&◌, T, eqb, ltb, List, [], ◌∷◌, length, refl, ap, ◌∙◌, arith, eqb→eq, ltb→lt, leb→le}
-use Rattle.std.specs.List.{AllByRecursion as All}
+use Rattle.std.specs.List.{AllByRecursion}
 use Rattle.lattice.specs.Levels.{Levels}
 use Rattle.codec.specs.Expressions.{Expr}
 use Rattle.script.specs.Code.{Code}
@@ -49,7 +49,7 @@ pub record Threads (h : Head) (i : ℕ) : Type 0 where
   pub codes : List Code
   pub count : ℕ
   pub threads : length codes + i ≡ h.threads
-  pub valid : All (Valid h 0) codes
+  pub valid : AllByRecursion (Valid h 0) codes
   pub bounded : count ≤ 512
 
 abbrev pub threads_left : {h : Head} {i : ℕ} → Threads h i → List Frame
@@ -71,7 +71,7 @@ module _ (k : Levels) where
     pub long : length levels + seen ≡ declared
     pub pairs : length sizes ≡ length levels
     pub fits : room + total sizes ≤ capacity
-    pub has : All (λ l. T (k.has l)) levels
+    pub has : AllByRecursion (λ l. T (k.has l)) levels
 
   pub record Outside (n : Seen) (fs : List Frame) : Type 0 where
     pub tracks : Stores n.track_room 2048 n.tracks n.head.tracks

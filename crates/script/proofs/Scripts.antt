@@ -1,6 +1,6 @@
 -- An accepted script is the frames of a valid tree.
 use Rattle.std.proofs.Common.{◌≡◌, ℕ, suc, T, eqb, ◌⊎◌, List, [], ◌∷◌, map, length, sym, refl, ap, ◌∙◌, subst, arith, eqb→eq}
-use Rattle.std.specs.List.{AllByRecursion as All}
+use Rattle.std.specs.List.{AllByRecursion}
 use Rattle.lattice.specs.Levels.{Levels}
 use Rattle.script.specs.Code.{Code, Script}
 use Rattle.script.specs.Code.Code.{done, skip, assign, put, branch, loop, lock}
@@ -62,7 +62,7 @@ module _ (kind : ℕ) (k : Levels) where
           channel_room = omega (arith, o.channels.fits);
           track_levels = o.tracks.has;
           channel_levels = o.channels.has;
-          codes = subst (λ (x : Head). All (Valid x 0) o.later.codes) (sym heads) o.later.valid;
+          codes = subst (λ (x : Head). AllByRecursion (Valid x 0) o.later.codes) (sym heads) o.later.valid;
           frames = omega (arith, ap length same, o.counted, o.later.bounded);
         };
       }

@@ -2,7 +2,7 @@
 use Rattle.std.proofs.Common.{◌≡◌, ℕ, suc, ◌+◌, ◌-◌, ◌*◌, ◌<◌, ◌≤◌, true, false, ltb, ◌⊎◌, List, [], ◌∷◌, ◌++◌, map, length, take, drop, replicate, sym, refl, ap, ◌∙◌, subst, ap₂, inr, append_assoc, append-nil, add-one, arith, ltb→lt, length-append}
 use mathlib.Core.Option.{Option, none, some}
 use lib.ListN.{length-replicate}
-use Rattle.std.specs.List.{AllByRecursion as All}
+use Rattle.std.specs.List.{AllByRecursion}
 use Rattle.std.proofs.ByRecursion.{All-push}
 use Rattle.std.proofs.lemmas.List.{drop_at, drop-take, flat_map_more, length-drop, length_push, length-take, length-take-le, take-append-drop, take_at, take-take}
 use Rattle.lattice.specs.Levels.{Levels}
@@ -84,7 +84,7 @@ none_behind kind k n end_with t = t.0
 none_behind kind k n (last m) t = t.0
 
 module _ (kind : ℕ) (k : Levels) (slab : List ℕ) where
-  text_lines : (gs : List Frame) → All Writable gs → read_script kind k (text_of gs) ≡ read_lines kind k start nothing_seen (whole_lines gs)
+  text_lines : (gs : List Frame) → AllByRecursion Writable gs → read_script kind k (text_of gs) ≡ read_lines kind k start nothing_seen (whole_lines gs)
   unfolding read_script
   text_lines gs w = ap (read_lines kind k start nothing_seen) (ap (map whole_line) (split_written (map frame_bytes gs) (all_sized gs w)) ∙ lines_of gs w)
 
@@ -93,7 +93,7 @@ module _ (kind : ℕ) (k : Levels) (slab : List ℕ) where
 
   pub record Found (s : State) : Type 0 where
     pub frames : List Frame
-    pub fits : All Writable frames
+    pub fits : AllByRecursion Writable frames
     pub reads : (ls : List (ℕ ⊎ Read)) → behind frames (read_lines kind k (phase_of s) (seen_of s) ls) ≡ read_lines kind k start nothing_seen (whole_lines frames ++ ls)
     pub count : length frames ≡ s.frames
     pub declares : seen_of s ≡ through nothing_seen frames
@@ -182,7 +182,7 @@ module _ (kind : ℕ) (k : Levels) (slab : List ℕ) where
         go [] e = absurd (none_left gs w e f)
         go (h ∷ hs) e =
             let q = head_passes gs h hs w e in
-            let fits : Writable h = middle d.frames h hs (subst (All Writable) e (held_writable kind k slab gs w)) in
+            let fits : Writable h = middle d.frames h hs (subst (AllByRecursion Writable) e (held_writable kind k slab gs w)) in
             let few = (passed h q).1 in
             record { head = h; tail = hs; is = e; fitting = record { writable = fits; holds = slot_is gs h hs w e fits few; passes = q }; room = few }
 

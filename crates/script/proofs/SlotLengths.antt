@@ -1,6 +1,6 @@
 -- How long the frame at the front of a slot is.
 use Rattle.std.proofs.Common.{◌≡◌, ℕ, zero, suc, ◌+◌, ◌-◌, ◌/◌, ◌%◌, ◌<◌, ◌≤◌, Bool, true, false, ◌&&◌, eqb, List, [], ◌∷◌, ◌++◌, length, get_or, drop, replicate, sym, refl, ap, ◌∙◌, arith, w32, to_z, of_z, ne_eqb, eqb-true}
-use Rattle.std.specs.List.{AllByRecursion as All}
+use Rattle.std.specs.List.{AllByRecursion}
 use Rattle.std.proofs.lemmas.List.{at_drop_more, at_drop_all}
 use Rattle.std.proofs.lemmas.Int.{to_z-of_z}
 use Rattle.codec.specs.Expressions.{Expr, decode, operation, expr_bytes, number_4}
@@ -36,7 +36,7 @@ zeros_to (suc n) = zeros_to n
 number_four : (n : ℕ) → number_4 (n / 16777216) (n / 65536 % 256) (n / 256 % 256) (n % 256) ≡ n
 number_four n = omega arith
 
-pub decode_zeros : (e : Expr) (m : ℕ) → All OpFits e → (decode 0 (expr_bytes e ++ replicate m 0)).ops ≡ e
+pub decode_zeros : (e : Expr) (m : ℕ) → AllByRecursion OpFits e → (decode 0 (expr_bytes e ++ replicate m 0)).ops ≡ e
 unfolding decode operation
 decode_zeros [] zero h = refl
 decode_zeros [] (suc m) h = refl
@@ -57,7 +57,7 @@ decode_zeros (binary either ∷ e) m h = ap (λ (r : Expr). binary either ∷ r)
 decode_zeros (unary negated ∷ e) m h = ap (λ (r : Expr). unary negated ∷ r) (decode_zeros e m h.1)
 decode_zeros (unary inverted ∷ e) m h = ap (λ (r : Expr). unary inverted ∷ r) (decode_zeros e m h.1)
 
-code_is : (e : Expr) (m : ℕ) → All OpFits e → code_length (expr_bytes e ++ replicate m 0) ≡ length (expr_bytes e)
+code_is : (e : Expr) (m : ℕ) → AllByRecursion OpFits e → code_length (expr_bytes e ++ replicate m 0) ≡ length (expr_bytes e)
 code_is e m h = ap (λ (r : Expr). length (expr_bytes r)) (decode_zeros e m h)
 
 pub length_is : (f : Frame) → FrameFits f → length_at (padded 51 (frame_bytes f)) ≡ length (frame_bytes f)

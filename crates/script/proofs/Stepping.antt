@@ -1,7 +1,7 @@
 -- Reading in a loop: a line at a time from the left.
 use Rattle.std.proofs.Common.{◌≡◌, ℕ, suc, true, false, eqb, ◌⊎◌, List, [], ◌∷◌, ◌++◌, map, sym, refl, ap, ◌∙◌, inl, inr, append_assoc}
 use mathlib.Core.Option.{Option, none, some}
-use Rattle.std.specs.List.{AllByRecursion as All}
+use Rattle.std.specs.List.{AllByRecursion}
 use Rattle.lattice.specs.Levels.{Levels}
 use Rattle.codec.specs.Lines.{in_front, lines, line_bytes, split}
 use Rattle.codec.specs.Frames.{Frame, Read}
@@ -11,7 +11,7 @@ use Rattle.script.specs.Format.Verdict.{refused, accepted}
 -- Lines from the left
 
 abbrev pub NoEnd : List ℕ → Type 0
-NoEnd l = All (λ b. eqb b 0x0A ≡ false) l
+NoEnd l = AllByRecursion (λ b. eqb b 0x0A ≡ false) l
 
 pub lines_more : (l r : List ℕ) → NoEnd l → lines (l ++ (0x0A ∷ r)) ≡ some l ∷ lines r
 unfolding lines in_front

@@ -1,7 +1,7 @@
 -- What is accepted is the text of a valid script, and the text of every valid script that can be written is accepted.
 use Rattle.std.proofs.Common.{◌≡◌, ℕ, suc, Bool, true, false, cond, ◌&&◌, T, ltb, List, [], ◌∷◌, map, sym, refl, ap, ◌∙◌, subst, arith}
 use mathlib.Core.Option.{Option, none, some}
-use Rattle.std.specs.List.{AllByRecursion as All}
+use Rattle.std.specs.List.{AllByRecursion}
 use Rattle.lattice.specs.Levels.{Levels}
 use Rattle.script.specs.Code.{Script}
 use Rattle.codec.specs.Lines.{split, written}
@@ -39,15 +39,15 @@ sized (with m e) w = (omega arith, omega arith, w.0)
 sized end_with w = (omega arith, omega arith, w.0)
 sized (last m) w = (omega arith, omega arith, w.0)
 
-pub all_sized : (fs : List Frame) → All Writable fs → All Sized (map frame_bytes fs)
+pub all_sized : (fs : List Frame) → AllByRecursion Writable fs → AllByRecursion Sized (map frame_bytes fs)
 all_sized [] w = tt
 all_sized (f ∷ fs) w = (sized f w.0, all_sized fs w.1)
 
-pub lines_of : (fs : List Frame) → All Writable fs → map whole_line (map some (map frame_bytes fs)) ≡ whole_lines fs
+pub lines_of : (fs : List Frame) → AllByRecursion Writable fs → map whole_line (map some (map frame_bytes fs)) ≡ whole_lines fs
 lines_of [] w = refl
 lines_of (f ∷ fs) w = λ i. or_fault_2 (frame_forth f w.0.1 i) ∷ lines_of fs w.1 i
 
-pub text_read : (kind : ℕ) (k : Levels) (sc : Script) → ValidScript kind k sc → All Writable (script_frames sc) → read_script kind k (script_text sc) ≡ accepted (script_frames sc)
+pub text_read : (kind : ℕ) (k : Levels) (sc : Script) → ValidScript kind k sc → AllByRecursion Writable (script_frames sc) → read_script kind k (script_text sc) ≡ accepted (script_frames sc)
 unfolding read_script
 text_read kind k sc v w =
     let e : map whole_line (split (script_text sc)) ≡ whole_lines (script_frames sc) = ap (map whole_line) (split_written (map frame_bytes (script_frames sc)) (all_sized (script_frames sc) w)) ∙ lines_of (script_frames sc) w in
@@ -116,7 +116,7 @@ module _ (kind : ℕ) (k : Levels) where
   lined (none ∷ xs) p n fs e = let y : ◌≡◌ {A = ℕ} 0 1 = cc in absurd (omega arith)
   lined (some bs ∷ xs) p n fs e = one_line bs xs p n fs (frame_of bs) refl (lined xs) e
 
-held_bytes : (bss : List (List ℕ)) (fs : List Frame) → All Sized bss → Held bss fs → (map frame_bytes fs ≡ bss) × All Writable fs
+held_bytes : (bss : List (List ℕ)) (fs : List Frame) → AllByRecursion Sized bss → Held bss fs → (map frame_bytes fs ≡ bss) × AllByRecursion Writable fs
 held_bytes [] [] s h = (refl, tt)
 held_bytes [] (f ∷ fs) s h = absurd h
 held_bytes (b ∷ bss) [] s h = absurd h
@@ -132,7 +132,7 @@ pub record Text (kind : ℕ) (k : Levels) (bytes : List ℕ) (fs : List Frame) :
   pub frames_are : script_frames script ≡ fs
   pub text_is : script_text script ≡ bytes
   pub valid : ValidScript kind k script
-  pub writable : All Writable (script_frames script)
+  pub writable : AllByRecursion Writable (script_frames script)
 
 pub text_accepted : (kind : ℕ) (k : Levels) (bytes : List ℕ) (fs : List Frame) → read_script kind k bytes ≡ accepted fs → Text kind k bytes fs
 unfolding read_script
@@ -146,5 +146,5 @@ text_accepted kind k bytes fs e =
       frames_are = t.is;
       text_is = ap (λ (gs : List Frame). written (map frame_bytes gs)) t.is ∙ ap written h.0 ∙ w.0;
       valid = t.valid;
-      writable = subst (All Writable) (sym t.is) h.1;
+      writable = subst (AllByRecursion Writable) (sym t.is) h.1;
     }

@@ -1,7 +1,7 @@
 -- Writing lines, byte by byte and frame by frame.
 use Rattle.std.proofs.Common.{◌≡◌, ℕ, ◌+◌, ◌-◌, ◌*◌, ◌/◌, ◌%◌, ◌<◌, ◌≤◌, List, [], ◌∷◌, ◌++◌, length, get_or, take, drop, set, replicate, sym, refl, ap, ◌∙◌, subst, ap₂, append_assoc, arith, length-append}
 use lib.ListN.{length-replicate}
-use Rattle.std.specs.List.{AllByRecursion as All}
+use Rattle.std.specs.List.{AllByRecursion}
 use Rattle.std.proofs.lemmas.List.{drop_at, drop-drop, drop_more, drop-take, length-take-le, set_at, take_all, take-append-drop, take_at, take_more, take-take}
 use Rattle.codec.specs.Lines.{digit, digits, written}
 use Rattle.codec.specs.Frames.{Frame, frame_bytes}
@@ -89,7 +89,7 @@ text_one : (f : Frame) → text_of (f ∷ []) ≡ line_of (frame_bytes f)
 unfolding written
 text_one f = refl
 
-pub slots_long : (fs : List Frame) → All Writable fs → length (slots_of fs) ≡ length fs * 51
+pub slots_long : (fs : List Frame) → AllByRecursion Writable fs → length (slots_of fs) ≡ length fs * 51
 slots_long [] w = refl
 slots_long (f ∷ fs) w =
     let z = sized f w.0 in
@@ -101,16 +101,16 @@ pub slots_more : (fs gs : List Frame) → slots_of (fs ++ gs) ≡ slots_of fs ++
 slots_more [] gs = refl
 slots_more (f ∷ fs) gs = ap (λ (r : List ℕ). padded 51 (frame_bytes f) ++ r) (slots_more fs gs) ∙ sym (append_assoc (padded 51 (frame_bytes f)) (slots_of fs) (slots_of gs))
 
-front_all : (fs gs : List Frame) → All Writable (fs ++ gs) → All Writable fs
+front_all : (fs gs : List Frame) → AllByRecursion Writable (fs ++ gs) → AllByRecursion Writable fs
 front_all [] gs w = tt
 front_all (f ∷ fs) gs w = (w.0, front_all fs gs w.1)
 
-pub middle : (fs : List Frame) (h : Frame) (hs : List Frame) → All Writable (fs ++ (h ∷ hs)) → Writable h
+pub middle : (fs : List Frame) (h : Frame) (hs : List Frame) → AllByRecursion Writable (fs ++ (h ∷ hs)) → Writable h
 middle [] h hs w = w.0
 middle (f ∷ fs) h hs w = middle fs h hs w.1
 
 -- The slot of a frame.
-pub slot_is : (slab : List ℕ) (fs : List Frame) (h : Frame) (hs : List Frame) → All Writable (fs ++ (h ∷ hs)) → length fs < 512 → take 26112 slab ≡ slab_of (fs ++ (h ∷ hs))
+pub slot_is : (slab : List ℕ) (fs : List Frame) (h : Frame) (hs : List Frame) → AllByRecursion Writable (fs ++ (h ∷ hs)) → length fs < 512 → take 26112 slab ≡ slab_of (fs ++ (h ∷ hs))
     → take 51 (drop (length fs * 51) slab) ≡ padded 51 (frame_bytes h)
 slot_is slab fs h hs w few e =
     let a = length fs * 51 in
@@ -136,15 +136,15 @@ parted : (fs : List Frame) (i : ℕ) → i < length fs → fs ≡ take i fs ++ (
 parted fs i h = sym (take-append-drop i fs) ∙ ap (λ (r : List Frame). take i fs ++ r) (drop_more fs i skip h)
 
 -- Slot i has frame i.
-pub slot_number : (slab : List ℕ) (fs : List Frame) (i : ℕ) → All Writable fs → i < length fs → length fs ≤ 512 → take 26112 slab ≡ slab_of fs
+pub slot_number : (slab : List ℕ) (fs : List Frame) (i : ℕ) → AllByRecursion Writable fs → i < length fs → length fs ≤ 512 → take 26112 slab ≡ slab_of fs
     → take 51 (drop (i * 51) slab) ≡ padded 51 (frame_bytes (get_or fs i skip))
 slot_number slab fs i w h few e =
     let q = parted fs i h in
     let li = length-take-le i fs (omega arith) in
-    ap (λ (m : ℕ). take 51 (drop (m * 51) slab)) (sym li) ∙ slot_is slab (take i fs) (get_or fs i skip) (drop (i + 1) fs) (subst (All Writable) q w) (omega arith) (e ∙ ap slab_of q)
+    ap (λ (m : ℕ). take 51 (drop (m * 51) slab)) (sym li) ∙ slot_is slab (take i fs) (get_or fs i skip) (drop (i + 1) fs) (subst (AllByRecursion Writable) q w) (omega arith) (e ∙ ap slab_of q)
 
-pub writable_number : (fs : List Frame) (i : ℕ) → All Writable fs → i < length fs → Writable (get_or fs i skip)
-writable_number fs i w h = middle (take i fs) (get_or fs i skip) (drop (i + 1) fs) (subst (All Writable) (parted fs i h) w)
+pub writable_number : (fs : List Frame) (i : ℕ) → AllByRecursion Writable fs → i < length fs → Writable (get_or fs i skip)
+writable_number fs i w h = middle (take i fs) (get_or fs i skip) (drop (i + 1) fs) (subst (AllByRecursion Writable) (parted fs i h) w)
 
 -- The bytes of frame i, as the slot's front.
 pub front_is : (slab bytes : List ℕ) (fs : List Frame) (i c w : ℕ) → i < c → c ≤ 512 → w ≡ 51 → Slotted slab c fs

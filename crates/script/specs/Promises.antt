@@ -3,7 +3,7 @@ use Rattle.std.specs.Prelude.{◌≡◌, ℕ, suc, ◌<◌, ◌≤◌, Bool, tru
 use Rattle.std.proofs.Common.{inl, inr}
 use Rattle.std.proofs.Math.Option.{Option as Perhaps, none, some}
 use Rattle.std.specs.Option as options
-use Rattle.std.specs.List.{AllByRecursion as All}
+use Rattle.std.specs.List.{AllByRecursion}
 use Rattle.lattice.specs.Levels.{Levels}
 use Rattle.codec.specs.Frames as M
 use Rattle.codec.specs.Frames.{Read}
@@ -48,9 +48,9 @@ ReadGives kind k lines slab end r = by_test (nat_lt (length slab) 26112) (TooSho
 pub record ValidText (kind : ℕ) (k : Levels) (lines : List ℕ) : Type 0 where
   pub script : Script
   pub valid : ValidScript kind k script
-  pub writable : All Writable (script_frames script)
+  pub writable : AllByRecursion Writable (script_frames script)
   pub text : script_text script ≡ lines
-  pub only : (other : Script) → ValidScript kind k other → All Writable (script_frames other) → script_text other ≡ lines → other ≡ script
+  pub only : (other : Script) → ValidScript kind k other → AllByRecursion Writable (script_frames other) → script_text other ≡ lines → other ≡ script
 
 -- Accepted are the texts of valid scripts, and no other lines.
 abbrev pub AcceptsExactly : {K : Type 0} → ℕ → Levels → List ℕ → List ℕ → Result (Accepted K) RunFault → Type 0

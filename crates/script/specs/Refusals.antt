@@ -8,7 +8,7 @@ use Rattle.script.specs.declared.faults.Cause.TheVariants.{Shape, Range, Level, 
 use Rattle.script.specs.declared.faults.ScriptFault.{ScriptFault}
 use Rattle.script.specs.declared.faults.ScriptFault.TheVariants.{InLine, InFrame}
 use Rattle.script.specs.declared.faults.RunFault.{RunFault}
-use Rattle.script.specs.declared.faults.RunFault.TheVariants.{InScript, NoState}
+use Rattle.script.specs.declared.faults.RunFault.TheVariants.{InScript, NoState, NoSuch, TrackFull, OutOfTurns}
 
 -- The number of what a frame is refused for.
 abbrev pub cause_number : Cause → ℕ
@@ -29,10 +29,17 @@ abbrev pub script_refusal : ScriptFault → Refusal
 script_refusal (InLine f) = line_refusal f
 script_refusal (InFrame c l) = record { number = cause_number c; line = Some l; layer = Script }
 
--- A run's fault is a script's, as the script tells it, or 9, at no line.
+-- The refusal of a call, at no line.
+abbrev pub at_run : ℕ → Refusal
+at_run n = record { number = n; line = None; layer = Run }
+
+-- A run's fault is a script's, as the script tells it, or a call's.
 abbrev pub run_refusal : RunFault → Refusal
 run_refusal (InScript f) = script_refusal f
 run_refusal NoState = record { number = 9; line = None; layer = Run }
+run_refusal NoSuch = at_run 10
+run_refusal TrackFull = at_run 11
+run_refusal OutOfTurns = at_run 12
 
 -- The refusal of a script with number n at line l: the layer is the line's for 1, else the script's.
 abbrev pub refusal : ℕ → ℕ → Refusal

@@ -1,6 +1,6 @@
 -- A script as frames: its tree written out, and what makes it valid.
 use Rattle.std.specs.Prelude.{◌≡◌, ℕ, suc, ◌+◌, ◌^◌, ◌≤◌, T, List, [], ◌∷◌, length, nat_lt}
-use Rattle.std.specs.List.{AllByRecursion as All}
+use Rattle.std.specs.List.{AllByRecursion}
 use Rattle.lattice.specs.Levels.{Levels}
 use Rattle.codec.specs.Expressions.{Expr}
 use Rattle.script.specs.Code.{Code, Script}
@@ -85,7 +85,7 @@ pub record ValidScript (kind : ℕ) (k : Levels) (sc : Script) : Type 0 where
   pub channel_sizes : length sc.channel_sizes ≡ length sc.channel_levels
   pub track_room : total sc.track_sizes ≤ 2048
   pub channel_room : total sc.channel_sizes ≤ 512
-  pub track_levels : All (λ l. T (k.has l)) sc.track_levels
-  pub channel_levels : All (λ l. T (k.has l)) sc.channel_levels
-  pub codes : All (Valid (head_of sc) 0) sc.codes
+  pub track_levels : AllByRecursion (λ l. T (k.has l)) sc.track_levels
+  pub channel_levels : AllByRecursion (λ l. T (k.has l)) sc.channel_levels
+  pub codes : AllByRecursion (Valid (head_of sc) 0) sc.codes
   pub frames : length (script_frames sc) ≤ 512

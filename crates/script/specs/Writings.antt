@@ -1,6 +1,6 @@
 -- Writing frames as lines.
 use Rattle.std.specs.Prelude.{◌≡◌, ℕ, ◌+◌, ◌<◌, ◌≤◌, List, [], ◌∷◌, ◌++◌, length, take, drop, Option, MatchOption}
-use Rattle.std.specs.List.{AllByRecursion as All}
+use Rattle.std.specs.List.{AllByRecursion}
 use Rattle.codec.specs.Lines.{digits}
 use Rattle.codec.specs.Frames.{Frame}
 use Rattle.codec.specs.Writable.{Writable}
@@ -23,7 +23,7 @@ PutLine bytes out end n r = MatchOption r (length out < n + length (line_of byte
 
 -- Frames in the first slots of a slab.
 pub record Slotted (slab : List ℕ) (n : ℕ) (fs : List Frame) : Type 0 where
-  pub writable : All Writable fs
+  pub writable : AllByRecursion Writable fs
   pub count : length fs ≡ n
   pub slots : take 26112 slab ≡ slab_of fs
 

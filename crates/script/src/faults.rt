@@ -2,7 +2,7 @@
 ghost use Rattle.std.specs.Prelude.{◌≡◌};
 ghost use Rattle.script.specs.declared.faults.RunFault.TheVariants.{InScript};
 ghost use Rattle.script.specs.declared.faults.ScriptFault.TheVariants.{InLine};
-ghost use Rattle.script.specs.Refusals.{cause_number, line_refusal, run_refusal, script_refusal};
+ghost use Rattle.script.specs.Refusals.{at_run, cause_number, line_refusal, run_refusal, script_refusal};
 
 // The layer that refused: one line, the script, or a call.
 #[derive(Clone, Copy, Debug, PartialEq)]
@@ -12,7 +12,7 @@ pub enum Layer {
     Run,
 }
 
-// What a refusal tells. Numbers 1 to 8 stand at a line, counted from 1; 9 at none.
+// What a refusal tells. Numbers 1 to 8 stand at a line, counted from 1; those of calls at none.
 #[derive(Clone, Copy, Debug, PartialEq)]
 pub struct Refusal {
     pub number: u8,
@@ -56,8 +56,14 @@ pub enum ScriptFault {
 #[derive(Clone, Copy, Debug, PartialEq)]
 pub enum RunFault {
     InScript(ScriptFault),
-    // A slab or an output is too short, or a slab holds no script.
+    // A slab or an output is too short, a slab holds no script, or the slabs hold no state of a run.
     NoState,
+    // There is no such track, channel, thread or entry.
+    NoSuch,
+    // The track is full.
+    TrackFull,
+    // The last turn that a run may have was given.
+    OutOfTurns,
 }
 
 // Number, line and layer of a line's fault are those of the script's fault around it.
@@ -130,6 +136,18 @@ impl ScriptFault {
     }
 }
 
+// A refusal of a call on a run, which stands at no line.
+fn of_run(number: u8) -> Refusal
+    ensures { result ≡ at_run number }
+{
+    let layer = Layer::Run;
+    Refusal {
+        number,
+        line: None,
+        layer,
+    }
+}
+
 impl RunFault {
     pub fn refusal(self) -> Refusal
         ensures { result ≡ run_refusal self }
@@ -141,6 +159,9 @@ impl RunFault {
                 line: None,
                 layer: Layer::Run,
             },
+            RunFault::NoSuch => of_run(10),
+            RunFault::TrackFull => of_run(11),
+            RunFault::OutOfTurns => of_run(12),
         }
     }
 }

@@ -1,4 +1,6 @@
 // Scripts: read from lines into a slab, found again in a slab of any bytes, and written back.
+#![tactic(auto)]
+
 ghost use Rattle.std.specs.Prelude.{◌≡◌};
 
 pub use crate::finding::{frame_at, holds};

@@ -1,6 +1,6 @@
 // The state of reading, and the tests of each kind of frame in their order.
 ghost use Rattle.std.specs.Prelude.{◌≡◌, suc, ◌+◌, ◌^◌, ◌≤◌, ◌&&◌, [], ◌∷◌, ◌++◌, ◌==◌, nat_le, nat_lt};
-ghost use Rattle.codec.specs.Frames.Frame.{header as m-header, track as m-track, channel as m-channel, thread as m-thread, thread_end as m-thread-end, skip as m-skip, last as m-last};
+ghost use Rattle.codec.specs.Frames.Frame.{header as m_header, track as m_track, channel as m_channel, thread as m_thread, thread_end as m_thread_end, skip as m_skip, last as m_last};
 ghost use Rattle.codec.specs.Shapes.{head_of, read_of};
 ghost use Rattle.codec.specs.Slots.{perhaps};
 ghost use Rattle.script.specs.Format.{all_channels, all_threads, all_tracks, enter, first_fault, has_level, head_in_range, innermost, is_ended, is_inside, is_next, is_outside, is_start, leave, none_open, nothing_seen, room, tag, tests};
@@ -229,7 +229,7 @@ impl State {
     }
 
     fn header<K: Lattice>(self, head: Head) -> Result<State, Cause>
-        ensures { Passes (numbered 3 (head_in_range K.kind (head_of head)) ∷ numbered 5 (is_start (phase_of self)) ∷ []) self (m-header (head_of head)) result }
+        ensures { Passes (numbered 3 (head_in_range K.kind (head_of head)) ∷ numbered 5 (is_start (phase_of self)) ∷ []) self (m_header (head_of head)) result }
     {
         if !in_range::<K>(head) {
             return Err(Cause::Range);
@@ -252,7 +252,7 @@ impl State {
 
     fn track<K: Lattice>(self, number: u8, level: u32, capacity: u16) -> Result<State, Cause>
         requires { self.depth ≤ 16 }
-        ensures { Passes (numbered 3 (nat_le (self.samples + capacity) 2048) ∷ numbered 4 (has_level K.order (phase_of self) level) ∷ numbered 5 (is_outside (phase_of self) && is_next number self.tracks self.head.tracks) ∷ []) self (m-track number level capacity) result }
+        ensures { Passes (numbered 3 (nat_le (self.samples + capacity) 2048) ∷ numbered 4 (has_level K.order (phase_of self) level) ∷ numbered 5 (is_outside (phase_of self) && is_next number self.tracks self.head.tracks) ∷ []) self (m_track number level capacity) result }
     {
         let samples = self.samples as u32 + capacity as u32;
         if samples > SAMPLES {
@@ -273,7 +273,7 @@ impl State {
 
     fn channel<K: Lattice>(self, number: u8, level: u32, capacity: u16) -> Result<State, Cause>
         requires { self.depth ≤ 16 }
-        ensures { Passes (numbered 3 (nat_le (self.entries + capacity) 512) ∷ numbered 4 (has_level K.order (phase_of self) level) ∷ numbered 5 (all_tracks (phase_of self) (seen_of self) && is_next number self.channels self.head.channels) ∷ []) self (m-channel number level capacity) result }
+        ensures { Passes (numbered 3 (nat_le (self.entries + capacity) 512) ∷ numbered 4 (has_level K.order (phase_of self) level) ∷ numbered 5 (all_tracks (phase_of self) (seen_of self) && is_next number self.channels self.head.channels) ∷ []) self (m_channel number level capacity) result }
     {
         let entries = self.entries as u32 + capacity as u32;
         if entries > ENTRIES {
@@ -293,7 +293,7 @@ impl State {
     }
 
     fn thread(self, number: u8) -> Result<State, Cause>
-        ensures { Passes (numbered 5 (all_channels (phase_of self) (seen_of self) && is_next number self.threads self.head.threads) ∷ []) self (m-thread number) result }
+        ensures { Passes (numbered 5 (all_channels (phase_of self) (seen_of self) && is_next number self.threads self.head.threads) ∷ []) self (m_thread number) result }
     {
         if !(self.channels_done() & is_next_of(number, self.threads, self.head.threads)) {
             return Err(Cause::Order);
@@ -308,7 +308,7 @@ impl State {
 
     fn thread_end(self) -> Result<State, Cause>
         requires { self.depth ≤ 16 }
-        ensures { Passes (numbered 5 (none_open (phase_of self)) ∷ []) self m-thread-end result }
+        ensures { Passes (numbered 5 (none_open (phase_of self)) ∷ []) self m_thread_end result }
     {
         if !self.nothing_open() {
             return Err(Cause::Order);
@@ -321,7 +321,7 @@ impl State {
 
     fn skip(self) -> Result<State, Cause>
         requires { self.depth ≤ 16 }
-        ensures { Passes (numbered 5 (is_inside (phase_of self)) ∷ []) self m-skip result }
+        ensures { Passes (numbered 5 (is_inside (phase_of self)) ∷ []) self m_skip result }
     {
         if !self.inside() {
             return Err(Cause::Order);
@@ -332,7 +332,7 @@ impl State {
     // An assign or a put.
     fn command(self, named: bool, code: &[u8]) -> Result<State, Cause>
         requires { self.depth ≤ 16 }
-        ensures { Passes (expression_asks self named code.now) self m-skip result }
+        ensures { Passes (expression_asks self named code.now) self m_skip result }
     {
         match self.expression_fault(named, code) {
             Some(cause) => Err(cause),
@@ -392,7 +392,7 @@ impl State {
     // The last frame, which has the number of all frames.
     fn last(self, frames: u16) -> Result<State, Cause>
         requires { self.depth ≤ 16 }
-        ensures { Passes (numbered 5 (all_threads (phase_of self) (seen_of self) && frames == suc self.frames) ∷ []) self (m-last frames) result }
+        ensures { Passes (numbered 5 (all_threads (phase_of self) (seen_of self) && frames == suc self.frames) ∷ []) self (m_last frames) result }
     {
         if !(self.threads_done() & (frames as u32 == self.frames as u32 + 1)) {
             return Err(Cause::Order);

@@ -1,7 +1,6 @@
 -- Frames as the code has them.
-use Rattle.std.proofs.Common.{◌≡◌, ℕ, ◌+◌, ◌*◌, ◌<◌, ◌≤◌, Bool, true, false, cond, ◌&&◌, ltb, leb, List, length, take, refl, ⊎_elim, arith, Bor, ltb-true}
+use Rattle.std.proofs.Common.{◌≡◌, ℕ, ◌+◌, ◌*◌, ◌<◌, Bool, true, false, cond, ◌&&◌, ltb, leb, List, length, take, refl, arith, Bor, ltb-true}
 use mathlib.Core.Option.{none, some}
-use Rattle.std.proofs.lemmas.Bool.{cases_lt}
 use Rattle.codec.specs.Frames.{Read, frame_of}
 use Rattle.codec.specs.Shapes.{read_of}
 use Rattle.codec.specs.declared.frames.Frame.{Frame}
@@ -37,7 +36,3 @@ others EndWhile a b c d e f = refl
 others (With m o) a b c d e f = absurd (f m o refl)
 others EndWith a b c d e f = refl
 others (Last n) a b c d e f = refl
-
--- The place behind another does not lie before it.
-pub not_back : {place next : ℕ} → (place < 512 → next ≡ place + 1) → (512 ≤ place → next ≡ place) → place ≤ next
-not_back {place} {next} within over = ⊎_elim (λ h. omega (arith, within h)) (λ h. omega (arith, over h)) (cases_lt place 512)

@@ -2,3 +2,9 @@ pub mod Literals
 pub mod Masks
 pub mod Peeling
 pub mod Framed
+pub mod Strides
+pub mod Standing
+pub mod Parts
+pub mod Expressing
+pub mod Righting
+pub mod Tabling

@@ -20,7 +20,7 @@ use Rattle.survey.specs.Bits.{bit}
 use Rattle.survey.proofs.Masks.{bit_alone, bit_none, has_bit-bit_or}
 
 -- A frame that was found stands first at its place.
-first_frame : (fs : List Frame) (at : ℕ) (rd : Read) → some rd ≡ frame_number at fs → (gs : List Frame) × (drop at fs ≡ rd.frame ∷ gs) × (rd.whole ≡ true) × (at < length fs)
+pub first_frame : (fs : List Frame) (at : ℕ) (rd : Read) → some rd ≡ frame_number at fs → (gs : List Frame) × (drop at fs ≡ rd.frame ∷ gs) × (rd.whole ≡ true) × (at < length fs)
 first_frame [] at rd e = let z : ◌≡◌ {A = ℕ} 0 1 = cc in absurd (omega arith)
 first_frame (f ∷ fs) zero rd e =
     let same : rd ≡ whole f = cc in
@@ -77,7 +77,7 @@ begins (lock m o b n) r gs f e h = let s : with m o ≡ f = cc in subst (λ (y :
 abbrev pub Past : ℕ → ℕ → Type 0
 Past at next = at < 512 → next ≡ at + 1
 
-stepped : (fs : List Frame) (at next : ℕ) (f : Frame) (gs : List Frame) → length fs ≤ 512 → Past at next → drop at fs ≡ f ∷ gs → drop next fs ≡ gs
+pub stepped : (fs : List Frame) (at next : ℕ) (f : Frame) (gs : List Frame) → length fs ≤ 512 → Past at next → drop at fs ≡ f ∷ gs → drop next fs ≡ gs
 stepped fs at next f gs few p e =
     let l = longer at fs f gs e in
     ap (λ (m : ℕ). drop m fs) (p (omega arith) ∙ add-one at) ∙ drop_next at fs e

@@ -1,2 +1,5 @@
+pub mod Around
 pub mod Bits
 pub mod Stretches
+pub mod Table
+pub mod Filling

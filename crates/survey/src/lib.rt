@@ -1,14 +1,25 @@
 // What a stretch of commands is, from its frames: whether it takes a fixed time and how long, which locks it names, which variables it assigns.
-ghost use Rattle.std.specs.Prelude.{◌≡◌, ◌+◌, ◌*◌, ◌<◌, ◌≤◌, max, true, false, ◌&&◌, [], ◌∷◌, bit_or};
+// The table of a script's steps is filled on the same way.
+#![tactic(auto)]
+
+ghost use Rattle.std.specs.Prelude.{◌≡◌, ◌+◌, ◌*◌, ◌<◌, ◌≤◌, max, true, false, ◌&&◌, [], ◌∷◌, length, bit_or, slice_set};
 ghost use Rattle.codec.specs.Expressions.{decode};
 ghost use Rattle.codec.specs.Operations.{op_of};
 ghost use Rattle.model.specs.Stretches.{is_literal_one};
-ghost use Rattle.survey.specs.Bits.{bit as bit-of};
+ghost use Rattle.survey.specs.Bits.{bit as bit_of};
+ghost use Rattle.survey.specs.Filling.{BeginsThread, closing_step, Filled, idle_turns, if_step, Outside, place_past, plain_step, reading_step, simple_step};
 ghost use Rattle.survey.specs.Stretches.{Measures, Survey};
+ghost use Rattle.survey.specs.Table.{Tabulates};
 
+pub use crate::around::{Around, walk_to};
+pub use crate::table::{Kind, Step};
+use crate::table::{plain, put_step, reading};
 use codec::expressions::{Op, first_op};
 use codec::frames::Frame;
 use script::{FRAMES, frame_at};
+
+mod around;
+mod table;
 
 // A stretch up to the frame that ends it, which stands at `end`. Nothing reads the duration of one that takes no fixed time.
 #[derive(Clone, Copy)]
@@ -24,13 +35,14 @@ pub struct Stretch {
 fn past(place: u16) -> u16
     ensures within { place < 512 → result ≡ place + 1 }
     ensures over { 512 ≤ place → result ≡ place }
+    ensures place { result ≡ place_past place }
 {
     if place < FRAMES { place + 1 } else { place }
 }
 
 // A variable's bit in a mask.
 fn bit(variable: u8) -> u64
-    ensures { result ≡ bit-of variable }
+    ensures { result ≡ bit_of variable }
 {
     if variable < 64 { 1u64 << variable } else { 0 }
 }
@@ -124,39 +136,196 @@ fn hold(locks: u16, one: bool, body: Stretch, next: Stretch) -> Stretch
     }
 }
 
-// The stretch at a place of a script, down through all nested blocks; the frames that are left grow fewer with each call.
-fn survey_from(slab: &[u8], at: u16) -> Stretch
+// The idle turns at the end of a way: how much longer the other one lasts, where both take a fixed time.
+fn idle(fixed: bool, own: u32, other: u32) -> u16
+    requires { other ≤ 2048 }
+    ensures { result ≡ idle_turns fixed own other }
+{
+    if fixed & (own < other) {
+        (other - own) as u16
+    } else {
+        0
+    }
+}
+
+// The step of an if at a place, from its two ways.
+fn choice(at: u16, condition: &[u8], first: Stretch, second: Stretch) -> Step
+    requires at { at < 512 }
+    requires first { first.duration ≤ 2048 }
+    requires second { second.duration ≤ 2048 }
+    ensures { result ≡ if_step at (length condition.now) first second }
+{
+    let fixed = first.fixed & second.fixed;
+    Step {
+        other: past(first.end),
+        fixed,
+        first: idle(fixed, first.duration, second.duration),
+        second: idle(fixed, second.duration, first.duration),
+        needed: first.needed | second.needed,
+        assigned: first.assigned | second.assigned,
+        ..reading(Kind::If, at, 1, condition)
+    }
+}
+
+// Writes the steps of an if, of its else and of its end.
+fn put_choice(table: &mut [Step], at: u16, condition: &[u8], first: Stretch, second: Stretch)
+    requires at { at < 512 }
+    requires first { first.duration ≤ 2048 }
+    requires second { second.duration ≤ 2048 }
+    ensures { table.new ≡ slice_set (slice_set (slice_set table.old at (if_step at (length condition.now) first second)) first.end (closing_step Kind.Else (place_past second.end))) second.end (plain_step Kind.EndIf) }
+{
+    put_step(table, at, choice(at, condition, first, second));
+    let other = past(second.end);
+    put_step(
+        table,
+        first.end,
+        Step {
+            other,
+            ..plain(Kind::Else)
+        },
+    );
+    put_step(table, second.end, plain(Kind::EndIf));
+}
+
+// Writes the steps of a while and of its end.
+fn put_loop(table: &mut [Step], at: u16, condition: &[u8], end: u16)
+    requires { at < 512 }
+    ensures { table.new ≡ slice_set (slice_set table.old at (reading_step Kind.While 0 0 (place_past end) at 1 (length condition.now))) end (plain_step Kind.EndWhile) }
+{
+    let other = past(end);
+    put_step(
+        table,
+        at,
+        Step {
+            other,
+            ..reading(Kind::While, at, 1, condition)
+        },
+    );
+    put_step(table, end, plain(Kind::EndWhile));
+}
+
+// Writes the steps of a with and of its end.
+fn put_hold(table: &mut [Step], at: u16, mask: u16, condition: &[u8], end: u16)
+    requires { at < 512 }
+    ensures { table.new ≡ slice_set (slice_set table.old at (reading_step Kind.With 0 mask 0 at 3 (length condition.now))) end (plain_step Kind.EndWith) }
+{
+    put_step(
+        table,
+        at,
+        Step {
+            mask,
+            ..reading(Kind::With, at, 3, condition)
+        },
+    );
+    put_step(table, end, plain(Kind::EndWith));
+}
+
+// The step of a command that is no block, from its frame.
+fn simple(at: u16, frame: Frame<'_>) -> Step
+    requires { at < 512 }
+    ensures { result ≡ simple_step at frame.entry }
+{
+    match frame {
+        Frame::Assign {
+            variable,
+            expression,
+        } => Step {
+            number: variable,
+            ..reading(Kind::Assign, at, 2, expression)
+        },
+        Frame::Put {
+            channel,
+            expression,
+        } => Step {
+            number: channel,
+            ..reading(Kind::Put, at, 2, expression)
+        },
+        _ => plain(Kind::Skip),
+    }
+}
+
+// The stretch at a place of a script, down through all nested blocks; the frames that are left grow fewer with each call. On the
+// way every frame before its end gets its step: a block's when the stretches inside it are known.
+fn survey_from(slab: &[u8], at: u16, table: &mut [Step]) -> Stretch
     requires { at ≤ 512 }
     ensures start { at ≤ result.end }
     ensures end { result.end ≤ 512 }
     ensures turns { result.duration + 2 * at ≤ 2 * result.end }
     ensures survey { Survey slab.now at result }
+    ensures steps { Filled slab.now at result.end table.old table.new }
 {
     let Some(frame) = frame_at(slab, at) else {
         return nothing(at);
     };
     match frame {
-        Frame::Skip | Frame::Put { .. } => command(0, survey_from(slab, past(at))),
-        Frame::Assign { variable, .. } => command(bit(variable), survey_from(slab, past(at))),
-        Frame::If { .. } => {
-            let first = survey_from(slab, past(at));
-            let second = survey_from(slab, past(first.end));
-            branch(first, second, survey_from(slab, past(second.end)))
+        Frame::Skip | Frame::Put { .. } => {
+            put_step(table, at, simple(at, frame));
+            command(0, survey_from(slab, past(at), table))
         }
-        Frame::While { .. } => {
-            let body = survey_from(slab, past(at));
-            repeat(body, survey_from(slab, past(body.end)))
+        Frame::Assign { variable, .. } => {
+            put_step(table, at, simple(at, frame));
+            command(bit(variable), survey_from(slab, past(at), table))
+        }
+        Frame::If { condition } => {
+            let first = survey_from(slab, past(at), table);
+            let second = survey_from(slab, past(first.end), table);
+            put_choice(table, at, condition, first, second);
+            branch(first, second, survey_from(slab, past(second.end), table))
+        }
+        Frame::While { condition } => {
+            let body = survey_from(slab, past(at), table);
+            put_loop(table, at, condition, body.end);
+            repeat(body, survey_from(slab, past(body.end), table))
         }
         Frame::With { locks, condition } => {
-            let body = survey_from(slab, past(at));
-            hold(
-                locks,
-                literal_one(condition),
-                body,
-                survey_from(slab, past(body.end)),
-            )
+            let body = survey_from(slab, past(at), table);
+            put_hold(table, at, locks, condition, body.end);
+            let next = survey_from(slab, past(body.end), table);
+            hold(locks, literal_one(condition), body, next)
         }
         _ => nothing(at),
+    }
+}
+
+// Whether a thread begins at a place.
+fn begins_thread(slab: &[u8], place: u16) -> bool
+    ensures { BeginsThread slab.now place result }
+{
+    let Some(frame) = frame_at(slab, place) else {
+        return false;
+    };
+    match frame {
+        Frame::Thread { .. } => true,
+        _ => false,
+    }
+}
+
+// The steps of the thread that begins at a place, or of the one frame there that no thread has; the place behind them.
+fn tabulate_from(slab: &[u8], place: u16, table: &mut [Step]) -> u16
+    requires place { place < 512 }
+    requires outside { Outside slab.now place }
+    ensures start { place < result }
+    ensures end { result ≤ 512 }
+    ensures outside { Outside slab.now result }
+    ensures steps { Filled slab.now place result table.old table.new }
+{
+    if !begins_thread(slab, place) {
+        put_step(table, place, plain(Kind::Other));
+        return place + 1;
+    }
+    put_step(table, place, plain(Kind::Begin));
+    let thread = survey_from(slab, place + 1, table);
+    put_step(table, thread.end, plain(Kind::End));
+    past(thread.end)
+}
+
+// The steps of the script that a slab holds, one for each frame, in the first places of the table.
+pub fn tabulate(slab: &[u8], table: &mut [Step])
+    ensures { Tabulates slab.now table.new }
+{
+    let mut place = 0;
+    while place < FRAMES {
+        place = tabulate_from(slab, place, table);
     }
 }
 
@@ -167,7 +336,8 @@ pub fn stretch_at(slab: &[u8], place: u16) -> Stretch
     if place > FRAMES {
         return nothing(place);
     }
-    survey_from(slab, place)
+    // No table is asked for, so none of the steps is kept.
+    survey_from(slab, place, &mut [])
 }
 
 // Whether that stretch takes a fixed time, and how long it lasts: one measuring answers both.
@@ -228,5 +398,23 @@ mod tests {
         assert_eq!(rt; thread.end, 18);
         assert_eq!(rt; stretch_at(&slab, 12).needed, 2);
         assert_eq!(rt; stretch_at(&slab, 600).end, 600);
+    }
+
+    // Its steps: the if in it has its else at 8, where the second way waits for the first, and its end at 10; the while ends at 16.
+    #[test]
+    fn steps_of_a_script(rt: HostRuntime) {
+        let mut slab = [0u8; SLAB];
+        assert!(rt; read::<TwoPoint>(SCRIPT, &mut slab).is_ok());
+        let mut table = [Step::none(); 512];
+        tabulate(&slab, &mut table);
+        let choice = table[5];
+        assert!(rt; choice.fixed);
+        assert_eq!(rt; (choice.first, choice.second), (0, 1));
+        assert_eq!(rt; (choice.start, choice.stop), (256, 258));
+        assert_eq!(rt; (choice.needed, choice.assigned), (0, 3));
+        assert_eq!(rt; (choice.other, table[8].other), (9, 11));
+        assert_eq!(rt; table[12].other, 17);
+        assert_eq!(rt; table[13].mask, 2);
+        assert_eq!(rt; table[7].number, 1);
     }
 }

@@ -1,0 +1,16 @@
+pub mod Operations
+pub mod Verdicts
+pub mod Flat
+pub mod Kept
+pub mod Zeros
+pub mod Views
+pub mod Leaves
+pub mod Statuses
+pub mod Turns
+pub mod Memory
+pub mod Declaring
+pub mod Starting
+pub mod Finding
+pub mod Answers
+pub mod Calls
+pub mod Fitted

@@ -1,0 +1,148 @@
+// A walk over a script's steps: what stands around a place.
+ghost use Rattle.std.specs.Prelude.{◌≡◌, ◌<◌, ◌≤◌};
+ghost use Rattle.survey.specs.Around.{Walks, no_around, entered, left, strode};
+
+use crate::table::{Kind, Step};
+use script::DEPTH;
+
+// What a walk over a script's frames has met when it comes to a place: how many threads began and ended, and where the blocks
+// began that are still open, `depth` of them, outermost first.
+#[derive(Clone, Copy)]
+pub struct Around {
+    pub begun: u16,
+    pub ended: u16,
+    pub openers: [u16; DEPTH],
+    pub depth: u8,
+}
+
+impl Around {
+    // Before the first frame.
+    fn start() -> Around
+        ensures { result ≡ no_around }
+    {
+        Around {
+            begun: 0,
+            ended: 0,
+            openers: [0; DEPTH],
+            depth: 0,
+        }
+    }
+
+    // Into a block whose first frame stands at a place; no valid script has more of them open than there is room for.
+    fn enter(self, place: u16) -> Around
+        ensures { result ≡ entered place self }
+    {
+        let depth = self.depth as usize;
+        if depth < DEPTH {
+            let mut openers = self.openers;
+            openers[depth] = place;
+            Around {
+                openers,
+                depth: self.depth + 1,
+                ..self
+            }
+        } else {
+            self
+        }
+    }
+
+    // Out of the innermost block.
+    fn leave(self) -> Around
+        ensures { result ≡ left self }
+    {
+        Around {
+            depth: self.depth.saturating_sub(1),
+            ..self
+        }
+    }
+
+    // Over the frame at a place.
+    fn over(self, place: u16, kind: Kind) -> Around
+        requires begun { self.begun ≤ place }
+        requires ended { self.ended ≤ place }
+        requires place { place < 65535 }
+        ensures { result ≡ strode place kind self }
+    {
+        match kind {
+            Kind::Begin => Around {
+                begun: self.begun + 1,
+                ..self
+            },
+            Kind::End => Around {
+                ended: self.ended + 1,
+                ..self
+            },
+            Kind::If | Kind::While | Kind::With => self.enter(place),
+            Kind::EndIf | Kind::EndWhile | Kind::EndWith => self.leave(),
+            Kind::Other | Kind::Skip | Kind::Assign | Kind::Put | Kind::Else => self,
+        }
+    }
+}
+
+// What a walk from the first frame has met when it comes to a place; past the last frame it meets nothing more.
+pub fn walk_to(table: &[Step], place: u16) -> Around
+    ensures met { Walks table.now place result }
+    ensures deep { result.depth ≤ 16 }
+{
+    let end = (place as usize).min(table.len());
+    let mut walk = Around::start();
+    for p in 0..end {
+        walk = walk.over(p as u16, table[p].kind);
+    }
+    walk
+}
+
+#[cfg(test)]
+mod tests {
+    use super::*;
+
+    fn step(kind: Kind) -> Step {
+        Step {
+            kind,
+            number: 0,
+            mask: 0,
+            start: 0,
+            stop: 0,
+            other: 0,
+            fixed: false,
+            first: 0,
+            second: 0,
+            needed: 0,
+            assigned: 0,
+        }
+    }
+
+    // A thread with a while around an if, between the header's frame and the last.
+    fn table() -> [Step; 10] {
+        [
+            step(Kind::Other),
+            step(Kind::Begin),
+            step(Kind::While),
+            step(Kind::If),
+            step(Kind::Skip),
+            step(Kind::Else),
+            step(Kind::EndIf),
+            step(Kind::EndWhile),
+            step(Kind::End),
+            step(Kind::Other),
+        ]
+    }
+
+    #[test]
+    fn inside_two_blocks(rt: HostRuntime) {
+        let inside = walk_to(&table(), 5);
+        assert_eq!(rt; inside.begun, 1);
+        assert_eq!(rt; inside.ended, 0);
+        assert_eq!(rt; inside.depth, 2);
+        assert_eq!(rt; inside.openers[0], 2);
+        assert_eq!(rt; inside.openers[1], 3);
+    }
+
+    #[test]
+    fn behind_each_block(rt: HostRuntime) {
+        assert_eq!(rt; walk_to(&table(), 7).depth, 1);
+        assert_eq!(rt; walk_to(&table(), 8).depth, 0);
+        assert_eq!(rt; walk_to(&table(), 9).ended, 1);
+        assert_eq!(rt; walk_to(&table(), 600).ended, 1);
+    }
+}
