@@ -12,14 +12,19 @@ type Case = (&'static str, u8, u16);
 // A script up to its thread's begin, in four lines: one thread, variable, track and channel, and two locks; 2,048 samples and 512 entries.
 const BEGUN: &[u8] = b"0101010101010102\n0200000000010800\n0300000000000200\n2000\n";
 
+// A text for the message of a test that fails.
+fn shown(text: &[u8]) -> &str {
+    str::from_utf8(text).unwrap_or("a text that is not UTF-8")
+}
+
 // The script that was read is written back, byte for byte.
 fn comes_back<K: Lattice>(
     rt: &impl Abort,
     heap: Global,
-    case: &str,
     text: &[u8],
     slab: &[u8],
 ) -> Result<(), Fail> {
+    let case = shown(text);
     let mut out = vec![in heap; 7u8; text.len()]?;
     let written = write::<K>(slab, &mut out);
     assert!(rt; written.is_ok(), "{case}");
@@ -28,20 +33,20 @@ fn comes_back<K: Lattice>(
 }
 
 // Reads a text into a slab of sevens: either it comes back, or the refusal is the one expected and the slab then zero. What fails
-// names its case.
+// shows the text.
 fn expect<K: Lattice>(
     rt: &impl Abort,
     heap: Global,
-    case: &str,
     text: &[u8],
     number: u8,
     line: u16,
 ) -> Result<(), Fail> {
+    let case = shown(text);
     let mut slab = [7u8; SLAB];
     match read::<K>(text, &mut slab) {
         Ok(_) => {
             assert_eq!(rt; number, 0, "{case}");
-            comes_back::<K>(rt, heap, case, text, &slab)
+            comes_back::<K>(rt, heap, text, &slab)
         }
         Err(fault) => {
             let told = fault.refusal();
@@ -66,25 +71,24 @@ fn expect<K: Lattice>(
 fn expect_both(
     rt: &impl Abort,
     heap: Global,
-    case: &str,
     mut text: Vec<u8>,
     number: u8,
     line: u16,
 ) -> Result<(), Fail> {
-    expect::<TwoPoint>(rt, heap, case, &text, number, line)?;
+    expect::<TwoPoint>(rt, heap, &text, number, line)?;
     if text.starts_with(b"0101") {
         if let Some(kind) = text.get_mut(5) {
             *kind = b'2';
         }
     }
-    expect::<Bits>(rt, heap, case, &text, number, line)
+    expect::<Bits>(rt, heap, &text, number, line)
 }
 
 fn expect_all(rt: &impl Abort, heap: Global, front: &[u8], cases: &[Case]) -> Result<(), Fail> {
     for (tail, number, line) in cases {
         let mut text = front.to_vec(heap)?;
         text.extend_from_slice(tail.as_bytes())?;
-        expect_both(rt, heap, tail, text, *number, *line)?;
+        expect_both(rt, heap, text, *number, *line)?;
     }
     Ok(())
 }
@@ -396,48 +400,13 @@ fn nesting(rt: HostRuntime) -> Result<(), Fail> {
 #[test]
 fn of_each_kind(rt: HostRuntime) -> Result<(), Fail> {
     let heap = rt.alloc();
-    expect::<TwoPoint>(
-        &rt,
-        heap,
-        "TwoPoint: 5 at 3",
-        b"0101010101010102\n0200000000010000\n",
-        5,
-        3,
-    )?;
-    expect::<TwoPoint>(
-        &rt,
-        heap,
-        "TwoPoint: 4 at 2",
-        b"0101010101010102\n0200000000020000\n",
-        4,
-        2,
-    )?;
-    expect::<Bits>(
-        &rt,
-        heap,
-        "Bits: 5 at 3",
-        b"0101020101010102\n02000000FFFF0000\n",
-        5,
-        3,
-    )?;
-    expect::<Bits>(
-        &rt,
-        heap,
-        "Bits: 4 at 2",
-        b"0101020101010102\n0200000100000000\n",
-        4,
-        2,
-    )?;
-    expect::<TwoPoint>(
-        &rt,
-        heap,
-        "TwoPoint: 5 at 2",
-        b"0101010101010102\n0101010101010102\n",
-        5,
-        2,
-    )?;
-    expect::<Bits>(&rt, heap, "Bits: 3 at 1", b"0101010101010102\n", 3, 1)?;
-    expect::<TwoPoint>(&rt, heap, "TwoPoint: 3 at 1", b"0101020101010102\n", 3, 1)
+    expect::<TwoPoint>(&rt, heap, b"0101010101010102\n0200000000010000\n", 5, 3)?;
+    expect::<TwoPoint>(&rt, heap, b"0101010101010102\n0200000000020000\n", 4, 2)?;
+    expect::<Bits>(&rt, heap, b"0101020101010102\n02000000FFFF0000\n", 5, 3)?;
+    expect::<Bits>(&rt, heap, b"0101020101010102\n0200000100000000\n", 4, 2)?;
+    expect::<TwoPoint>(&rt, heap, b"0101010101010102\n0101010101010102\n", 5, 2)?;
+    expect::<Bits>(&rt, heap, b"0101010101010102\n", 3, 1)?;
+    expect::<TwoPoint>(&rt, heap, b"0101020101010102\n", 3, 1)
 }
 
 // The begun script with so many skips, its thread's end and its last frame, which counts the frames as `last` says.
@@ -454,52 +423,10 @@ fn skips(heap: Global, count: usize, last: &[u8]) -> Result<Vec<u8>, Fail> {
 #[test]
 fn frames(rt: HostRuntime) -> Result<(), Fail> {
     let heap = rt.alloc();
-    expect_both(
-        &rt,
-        heap,
-        "506 skips: 0 at 0",
-        skips(heap, 506, b"21\n7F0200\n")?,
-        0,
-        0,
-    )?;
-    expect_both(
-        &rt,
-        heap,
-        "507 skips: 8 at 513",
-        skips(heap, 507, b"21\n7F0201\n")?,
-        8,
-        513,
-    )?;
-    expect_both(
-        &rt,
-        heap,
-        "507 skips: 5 at 513",
-        skips(heap, 507, b"21\n7F0200\n")?,
-        5,
-        513,
-    )?;
-    expect_both(
-        &rt,
-        heap,
-        "508 skips: 1 at 513",
-        skips(heap, 508, b"3\n")?,
-        1,
-        513,
-    )?;
-    expect_both(
-        &rt,
-        heap,
-        "508 skips: 8 at 513",
-        skips(heap, 508, b"30\n")?,
-        8,
-        513,
-    )?;
-    expect_both(
-        &rt,
-        heap,
-        "508 skips: 5 at 513",
-        skips(heap, 508, b"")?,
-        5,
-        513,
-    )
+    expect_both(&rt, heap, skips(heap, 506, b"21\n7F0200\n")?, 0, 0)?;
+    expect_both(&rt, heap, skips(heap, 507, b"21\n7F0201\n")?, 8, 513)?;
+    expect_both(&rt, heap, skips(heap, 507, b"21\n7F0200\n")?, 5, 513)?;
+    expect_both(&rt, heap, skips(heap, 508, b"3\n")?, 1, 513)?;
+    expect_both(&rt, heap, skips(heap, 508, b"30\n")?, 8, 513)?;
+    expect_both(&rt, heap, skips(heap, 508, b"")?, 5, 513)
 }
