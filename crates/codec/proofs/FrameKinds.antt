@@ -1,10 +1,11 @@
 -- The frame of bytes, as the code asks for it: by kind, length and places.
-use Rattle.std.proofs.Common.{◌≡◌, ℕ, suc, ◌+◌, ◌-◌, ◌*◌, Bool, true, false, cond, eqb, leb, List, [], ◌∷◌, length, get_or, drop, sym, refl, ap, ◌∙◌, arith, ne_eqb, eqb-true, le-leb}
+use Rattle.std.proofs.Common.{◌≡◌, ℕ, suc, ◌+◌, ◌-◌, ◌*◌, Bool, true, false, cond, eqb, leb, List, [], ◌∷◌, length, get_or, drop, sym, refl, ap, ◌∙◌, arith, ne_eqb, le-leb}
 use mathlib.Core.Option.{Option, none, some}
-use Rattle.codec.specs.Expressions.{Expr, number_4}
+use Rattle.codec.specs.Expressions.{Expr}
 use Rattle.codec.specs.Frames.{Frame, Read, header_of, store_of, frame_of, with_nothing, with_byte, with_two, with_seven, field_then, mask_then, with_expression}
 use Rattle.codec.specs.Frames.Frame.{track, channel, thread, thread_end, skip, assign, put, if, else, end_if, while, end_while, with, end_with, last}
 use Rattle.codec.specs.Shapes.{fitting, decoded, whole}
+use Rattle.codec.proofs.Rows.{miss}
 
 abbrev two_at : List ℕ → ℕ → ℕ
 two_at bs i = get_or bs i 0 * 256 + get_or bs (i + 1) 0
@@ -66,13 +67,10 @@ seven_is k f (a ∷ b ∷ c ∷ d ∷ e ∷ g ∷ []) = refl
 seven_is k f (a ∷ b ∷ c ∷ d ∷ e ∷ g ∷ h ∷ []) = refl
 seven_is k f (a ∷ b ∷ c ∷ d ∷ e ∷ g ∷ h ∷ i ∷ bs) = rw (ne_eqb (suc (suc (suc (suc (suc (suc (suc (suc (suc (length bs)))))))))) 8 (omega arith))
 
-four_is : (a b c d : ℕ) → a * 16777216 + b * 65536 + c * 256 + d ≡ number_4 a b c d
-four_is a b c d = omega arith
-
 store_is : (k : ℕ) (f : ℕ → ℕ → ℕ → Frame) (bs : List ℕ)
     → if_long (k ∷ bs) 8 (f (get_or bs 0 0) (get_or bs 1 0 * 16777216 + get_or bs 2 0 * 65536 + get_or bs 3 0 * 256 + get_or bs 4 0) (get_or bs 5 0 * 256 + get_or bs 6 0)) ≡ with_seven (store_of f) bs
 store_is k f bs =
-    ap (λ l. if_long (k ∷ bs) 8 (f (get_or bs 0 0) l (get_or bs 5 0 * 256 + get_or bs 6 0))) (four_is (get_or bs 1 0) (get_or bs 2 0) (get_or bs 3 0) (get_or bs 4 0))
+    ap (λ l. if_long (k ∷ bs) 8 (f (get_or bs 0 0) l (get_or bs 5 0 * 256 + get_or bs 6 0))) (omega arith)
     ∙ seven_is k (store_of f) bs
 
 fits_is : (bs rest : List ℕ) (n : ℕ) (f : Expr → Frame) → length bs ≡ length rest + n → drop n bs ≡ rest → if_fits bs n f ≡ with_expression f rest
@@ -126,13 +124,6 @@ fits_none : (b c : Bool) (r : Read) → (b ≡ true → c ≡ true → ⊥) → 
 fits_none true true r h = absurd (h refl refl)
 fits_none true false r h = refl
 fits_none false c r h = refl
-
-miss : (k m : ℕ) (a b : Option Read) → (k ≡ m → a ≡ none) → b ≡ none → cond (eqb k m) a b ≡ none
-miss k m a b h e = pick (eqb k m) (λ t. h (eqb-true k m t))
-  where
-    pick : (t : Bool) → (t ≡ true → a ≡ none) → cond t a b ≡ none
-    pick true g = g refl
-    pick false g = e
 
 either_none : (t : Bool) (x : Option Read) → x ≡ none → cond t none x ≡ none
 either_none true x e = refl

@@ -1,11 +1,11 @@
 -- The first operation of a code, and what it leaves to the rest.
-use Rattle.std.proofs.Common.{◌≡◌, ℕ, zero, suc, ◌+◌, ◌-◌, ◌*◌, ◌<◌, ◌≤◌, Bool, true, false, cond, ◌&&◌, eqb, List, [], ◌∷◌, length, get_or, take, drop, sym, refl, ap, ◌∙◌, arith, length-drop, w32, to_z, ne_eqb, eqb-true}
+use Rattle.std.proofs.Common.{◌≡◌, ℕ, zero, suc, ◌+◌, ◌-◌, ◌*◌, ◌<◌, ◌≤◌, cond, eqb, List, [], ◌∷◌, length, get_or, take, drop, sym, refl, ap, ◌∙◌, arith, length-drop, w32, to_z, ne_eqb}
 use mathlib.Core.Option.{Option, none, some}
 use Rattle.std.proofs.lemmas.List.{take_rest}
-use Rattle.codec.specs.Expressions.{Op, Decoded, Taken, takes, with_four, with_one, number_4, operation, and_then, decode}
+use Rattle.codec.specs.Expressions.{Op, Decoded, Taken, takes, with_four, with_one, operation, and_then, decode}
 use Rattle.codec.specs.Expressions.Op.{constant, variable, sample, held}
-use Rattle.codec.specs.Sound.{leaves_one}
 use Rattle.codec.specs.Operations.{First, joined, plain_at, stopped}
+use Rattle.codec.proofs.Rows.{miss}
 
 skipped : (n : ℕ) (bs : List ℕ) → decode n bs ≡ decode 0 (drop n bs)
 unfolding decode
@@ -33,9 +33,6 @@ operation_is : (k : ℕ) (bs : List ℕ) → operation k bs ≡ cond (eqb k 1) (
 unfolding operation
 operation_is k bs = refl
 
-four_is : (a b c d : ℕ) → number_4 a b c d ≡ a * 16777216 + b * 65536 + c * 256 + d
-four_is a b c d = omega arith
-
 pub constant_is : (code : List ℕ) → get_or code 0 0 ≡ 1 → 5 ≤ length code → operation (get_or code 0 0) (drop 1 code) ≡ takes (constant (to_z w32 (get_or code 1 0 * 16777216 + get_or code 2 0 * 65536 + get_or code 3 0 * 256 + get_or code 4 0))) 4
 unfolding operation
 constant_is code e h = ap (λ k. operation k (drop 1 code)) e ∙ fours code h
@@ -46,43 +43,25 @@ constant_is code e h = ap (λ k. operation k (drop 1 code)) e ∙ fours code h
     fours (k ∷ a ∷ []) h = absurd (omega arith)
     fours (k ∷ a ∷ b ∷ []) h = absurd (omega arith)
     fours (k ∷ a ∷ b ∷ c ∷ []) h = absurd (omega arith)
-    fours (k ∷ a ∷ b ∷ c ∷ d ∷ bs) h = ap (λ n. takes (constant (to_z w32 n)) 4) (four_is a b c d)
+    fours (k ∷ a ∷ b ∷ c ∷ d ∷ bs) h = ap (λ n. takes (constant (to_z w32 n)) 4) (omega arith)
 
 ones : (f : ℕ → Op) (code : List ℕ) → 2 ≤ length code → with_one f (drop 1 code) ≡ takes (f (get_or code 1 0)) 1
 ones f [] h = absurd (omega arith)
 ones f (k ∷ []) h = absurd (omega arith)
 ones f (k ∷ a ∷ bs) h = refl
 
-pub variable_is : (code : List ℕ) → get_or code 0 0 ≡ 2 → 2 ≤ length code → operation (get_or code 0 0) (drop 1 code) ≡ takes (variable (get_or code 1 0)) 1
-unfolding operation
-variable_is code e h = ap (λ k. operation k (drop 1 code)) e ∙ ones variable code h
-
-pub sample_is : (code : List ℕ) → get_or code 0 0 ≡ 3 → 2 ≤ length code → operation (get_or code 0 0) (drop 1 code) ≡ takes (sample (get_or code 1 0)) 1
-unfolding operation
-sample_is code e h = ap (λ k. operation k (drop 1 code)) e ∙ ones sample code h
-
-pub held_is : (code : List ℕ) → get_or code 0 0 ≡ 4 → 2 ≤ length code → operation (get_or code 0 0) (drop 1 code) ≡ takes (held (get_or code 1 0)) 1
-unfolding operation
-held_is code e h = ap (λ k. operation k (drop 1 code)) e ∙ ones held code h
+pub operand_is : (f : ℕ → Op) (m : ℕ) (code : List ℕ) → ((bs : List ℕ) → operation m bs ≡ with_one f bs) → get_or code 0 0 ≡ m → 2 ≤ length code
+    → operation (get_or code 0 0) (drop 1 code) ≡ takes (f (get_or code 1 0)) 1
+operand_is f m code reads e h = ap (λ k. operation k (drop 1 code)) e ∙ reads (drop 1 code) ∙ ones f code h
 
 -- a code without operand bytes is none of those that have some
-never : {A : Type 0} (x : A) → ◌≡◌ {A = Option A} (some x) none → ⊥
-never x p = let z : ◌≡◌ {A = ℕ} 0 1 = cc in omega arith
-
 passed : (k m : ℕ) (t : Taken) (x z : Option Taken) → plain_at m ≡ none → some t ≡ plain_at k → cond (eqb k m) x z ≡ z
-passed k m t x z no_plain e = rw (ne_eqb k m (λ h. never t (e ∙ ap plain_at h ∙ no_plain)))
+passed k m t x z no_plain e = rw (ne_eqb k m (λ h. let none_is_some = e ∙ ap plain_at h ∙ no_plain in cc))
 
 pub plain_is : (k : ℕ) (bs : List ℕ) (o : Op) → takes o 0 ≡ plain_at k → operation k bs ≡ takes o 0
 plain_is k bs o e =
     operation_is k bs
     ∙ passed k 1 _ _ _ refl e ∙ passed k 2 _ _ _ refl e ∙ passed k 3 _ _ _ refl e ∙ passed k 4 _ _ _ refl e ∙ sym e
-
-miss : (k m : ℕ) (a b : Option Taken) → (k ≡ m → a ≡ none) → b ≡ none → cond (eqb k m) a b ≡ none
-miss k m a b h e = pick (eqb k m) (λ t. h (eqb-true k m t))
-  where
-    pick : (t : Bool) → (t ≡ true → a ≡ none) → cond t a b ≡ none
-    pick true g = g refl
-    pick false g = e
 
 few_four : (code : List ℕ) → (5 ≤ length code → ⊥) → with_four (drop 1 code) ≡ none
 few_four [] h = refl
@@ -107,10 +86,7 @@ cut_is code e h₁ h₂ h₃ h₄ =
     (miss (get_or code 0 0) 3 _ _ (λ z. few_one sample code (h₃ z))
     (miss (get_or code 0 0) 4 _ _ (λ z. few_one held code (h₄ z)) (sym e))))
 
--- What is declared, and how many numbers are held
-
-abbrev pub sound : ℕ → Decoded → Bool
-sound n d = d.whole && leaves_one n d.ops
+-- What is declared
 
 -- A code of which no operation can be read.
 pub none_read : (code : List ℕ) → (0 < length code → decode 0 code ≡ stopped) → (decode 0 code).ops ≡ []

@@ -58,44 +58,35 @@ abbrev unlines : List (List ℕ) → List ℕ
 unlines [] = []
 unlines (l ∷ ls) = l ++ (0x0A ∷ unlines ls)
 
--- A list of lines all of which end is taken apart.
-record Parts (x : Option (List ℕ)) (xs : List (Option (List ℕ))) (ls : List (List ℕ)) : Type 0 where
-  first : List ℕ
-  later : List (List ℕ)
-  is : ls ≡ first ∷ later
-  first_is : x ≡ some first
-  later_is : xs ≡ map some later
-
-parts : (x : Option (List ℕ)) (xs : List (Option (List ℕ))) (ls : List (List ℕ)) → x ∷ xs ≡ map some ls → Parts x xs ls
-parts x xs [] e = let z : ◌≡◌ {A = ℕ} 0 1 = cc in absurd (omega arith)
-parts x xs (l ∷ ls) e = record { first = l; later = ls; is = refl; first_is = cc; later_is = cc }
-
 Back : List ℕ → Type 0
 Back bytes = (ls : List (List ℕ)) → lines bytes ≡ map some ls → unlines ls ≡ bytes
 
 front_back : (b : ℕ) (bs : List ℕ) (os : List (Option (List ℕ))) → lines bs ≡ os → (ls : List (List ℕ)) → in_front b os ≡ map some ls → Back bs → unlines ls ≡ b ∷ bs
 unfolding in_front Back
-front_back b bs [] eo ls e ih = let t = parts none [] ls e in let z : ◌≡◌ {A = ℕ} 0 1 = cc t.first_is in absurd (omega arith)
-front_back b bs (none ∷ os) eo ls e ih = let t = parts none os ls e in let z : ◌≡◌ {A = ℕ} 0 1 = cc t.first_is in absurd (omega arith)
-front_back b bs (some l ∷ os) eo ls e ih =
-    let t = parts (some (b ∷ l)) os ls e in
-    let h : b ∷ l ≡ t.first = cc t.first_is in
-    let more : unlines (l ∷ t.later) ≡ bs = ih (l ∷ t.later) (eo ∙ ap (λ (r : List (Option (List ℕ))). some l ∷ r) t.later_is) in
-    ap unlines t.is ∙ ap (λ (x : List ℕ). unlines (x ∷ t.later)) (sym h) ∙ ap (λ (x : List ℕ). b ∷ x) more
+front_back b bs [] eo [] e ih = cc
+front_back b bs [] eo (m ∷ ls) e ih = cc
+front_back b bs (none ∷ os) eo [] e ih = cc
+front_back b bs (none ∷ os) eo (m ∷ ls) e ih = cc
+front_back b bs (some l ∷ os) eo [] e ih = cc
+front_back b bs (some l ∷ os) eo (m ∷ ls) e ih =
+    let first : b ∷ l ≡ m = cc in
+    let later : os ≡ map some ls = cc in
+    let more : unlines (l ∷ ls) ≡ bs = ih (l ∷ ls) (eo ∙ ap (λ (r : List (Option (List ℕ))). some l ∷ r) later) in
+    ap (λ (x : List ℕ). unlines (x ∷ ls)) (sym first) ∙ ap (λ (x : List ℕ). b ∷ x) more
 
 end_back : (b : ℕ) (bs : List ℕ) (t : Bool) → eqb b 0x0A ≡ t → (ls : List (List ℕ)) → cond t (some [] ∷ lines bs) (in_front b (lines bs)) ≡ map some ls → Back bs → unlines ls ≡ b ∷ bs
 unfolding Back
-end_back b bs true et ls e ih =
-    let t = parts (some []) (lines bs) ls e in
-    let h : [] ≡ t.first = cc t.first_is in
-    let z : b ≡ 0x0A = eqb-true b 10 et in
-    ap unlines t.is ∙ ap (λ (x : List ℕ). unlines (x ∷ t.later)) (sym h) ∙ ap (λ (x : List ℕ). 0x0A ∷ x) (ih t.later t.later_is) ∙ ap (λ (c : ℕ). c ∷ bs) (sym z)
+end_back b bs true et [] e ih = cc
+end_back b bs true et (m ∷ ls) e ih =
+    let first : [] ≡ m = cc in
+    let later : lines bs ≡ map some ls = cc in
+    ap (λ (x : List ℕ). unlines (x ∷ ls)) (sym first) ∙ ap (λ (x : List ℕ). 0x0A ∷ x) (ih ls later) ∙ ap (λ (c : ℕ). c ∷ bs) (sym (eqb-true b 10 et))
 end_back b bs false et ls e ih = front_back b bs (lines bs) refl ls e ih
 
 lines_back : (bytes : List ℕ) → Back bytes
 unfolding lines Back
 lines_back [] [] e = refl
-lines_back [] (l ∷ ls) e = let z : ◌≡◌ {A = ℕ} 0 1 = cc in absurd (omega arith)
+lines_back [] (l ∷ ls) e = cc
 lines_back (b ∷ bs) ls e = end_back b bs (eqb b 0x0A) refl ls e (lines_back bs)
 
 -- Digits without a fault.
@@ -106,8 +97,8 @@ record Digits (ds f : List ℕ) : Type 0 where
 pairs_more : (a b : ℕ) (ds : List ℕ) (t : Bool) → (ltb (worth a) 16 && ltb (worth b) 16) ≡ t → (o : Option (List ℕ)) → ((g : List ℕ) → o ≡ some g → Digits ds g) → (f : List ℕ)
     → cond t (Option.map (λ bs. (16 * worth a + worth b) ∷ bs) o) none ≡ some f → Digits (a ∷ b ∷ ds) f
 unfolding digits
-pairs_more a b ds false et o ih f e = let z : ◌≡◌ {A = ℕ} 0 1 = cc in absurd (omega arith)
-pairs_more a b ds true et none ih f e = let z : ◌≡◌ {A = ℕ} 0 1 = cc in absurd (omega arith)
+pairs_more a b ds false et o ih f e = cc
+pairs_more a b ds true et none ih f e = cc
 pairs_more a b ds true et (some g) ih f e =
     let h : (16 * worth a + worth b) ∷ g ≡ f = cc in
     let t = and_parts (ltb (worth a) 16) (ltb (worth b) 16) et in
@@ -121,7 +112,7 @@ pairs_more a b ds true et (some g) ih f e =
 pairs_back : (ds f : List ℕ) → pairs ds ≡ some f → Digits ds f
 unfolding pairs digits
 pairs_back [] f e = let h : [] ≡ f = cc in subst (Digits []) h (record { is = refl; small = tt })
-pairs_back (a ∷ []) f e = let z : ◌≡◌ {A = ℕ} 0 1 = cc in absurd (omega arith)
+pairs_back (a ∷ []) f e = cc
 pairs_back (a ∷ b ∷ ds) f e = pairs_more a b ds _ refl (pairs ds) (pairs_back ds) f e
 
 pub record LineBack (x : Option (List ℕ)) (f : List ℕ) : Type 0 where
@@ -130,11 +121,11 @@ pub record LineBack (x : Option (List ℕ)) (f : List ℕ) : Type 0 where
 
 pub line_back : (x : Option (List ℕ)) (f : List ℕ) → line_bytes x ≡ some f → LineBack x f
 unfolding line_bytes
-line_back none f e = let z : ◌≡◌ {A = ℕ} 0 1 = cc in absurd (omega arith)
+line_back none f e = cc
 line_back (some ds) f e = go (leb 1 (length ds) && leb (length ds) 102) refl e
   where
     go : (t : Bool) → (leb 1 (length ds) && leb (length ds) 102) ≡ t → cond t (pairs ds) none ≡ some f → LineBack (some ds) f
-    go false et h = let z : ◌≡◌ {A = ℕ} 0 1 = cc in absurd (omega arith)
+    go false et h = cc
     go true et h =
         let m = pairs_back ds f h in
         let t = and_parts (leb 1 (length ds)) (leb (length ds) 102) et in
@@ -144,8 +135,8 @@ line_back (some ds) f e = go (leb 1 (length ds) && leb (length ds) 102) refl e
 
 lines_all : (os : List (Option (List ℕ))) (fs : List (List ℕ)) → map line_bytes os ≡ map some fs → (os ≡ map some (map digits fs)) × AllByRecursion Sized fs
 lines_all [] [] e = (refl, tt)
-lines_all [] (f ∷ fs) e = let z : ◌≡◌ {A = ℕ} 0 1 = cc in absurd (omega arith)
-lines_all (o ∷ os) [] e = let z : ◌≡◌ {A = ℕ} 0 1 = cc in absurd (omega arith)
+lines_all [] (f ∷ fs) e = cc
+lines_all (o ∷ os) [] e = cc
 lines_all (o ∷ os) (f ∷ fs) e =
     let first : line_bytes o ≡ some f = cc in
     let later : map line_bytes os ≡ map some fs = cc in

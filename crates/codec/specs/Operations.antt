@@ -13,6 +13,7 @@ use Rattle.codec.specs.declared.expressions.Binary.TheVariants.{Sum, Difference,
 use Rattle.codec.specs.declared.expressions.Unary.{Unary}
 use Rattle.codec.specs.declared.expressions.Unary.TheVariants.{Negated, Inverted}
 use Rattle.codec.specs.declared.expressions.Op.{Op}
+use Rattle.codec.specs.declared.expressions.Ops.{Ops}
 use Rattle.codec.specs.declared.expressions.Op.TheVariants.{Constant, Variable, Sample, Held, Two, One}
 
 -- What each operation on two numbers stands for.
@@ -64,3 +65,7 @@ pub record First (code : List ℕ) (o : C.Op) (rest : List ℕ) : Type 0 where
 -- How many numbers are held after an operation over n; none where it has no room.
 abbrev pub deepened : C.Op → ℕ → Perhaps ℕ
 deepened o n = cond (has_room n o) (some (depth_after n o)) none
+
+-- The operations that are left of a code.
+abbrev pub left : Ops → C.Expr
+left s = (decode 0 s.rest.now).ops

@@ -27,8 +27,8 @@ decoded f bs = record { frame = f (decode 0 bs).ops; whole = (decode 0 bs).whole
 -- What each frame of the code stands for; an expression is the bytes that it borrows.
 abbrev pub read_of : Frame → Read
 read_of (Header h) = whole (header (head_of h))
-read_of (Track n l c) = whole (track n l c)
-read_of (Channel n l c) = whole (channel n l c)
+read_of (Track s) = whole (track s.number s.level s.capacity)
+read_of (Channel s) = whole (channel s.number s.level s.capacity)
 read_of (Thread n) = whole (thread n)
 read_of ThreadEnd = whole thread_end
 read_of Skip = whole skip

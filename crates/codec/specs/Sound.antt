@@ -1,6 +1,6 @@
 -- Sound expressions: what they name is declared, and their stack works out.
 use Rattle.std.specs.Prelude.{ℕ, suc, ◌-◌, Bool, true, ◌&&◌, [], ◌∷◌, ◌==◌, nat_le, nat_lt}
-use Rattle.codec.specs.Expressions.{Op, Expr}
+use Rattle.codec.specs.Expressions.{Decoded, Op, Expr}
 use Rattle.codec.specs.Expressions.Op.{constant, variable, sample, held, binary, unary}
 use Rattle.codec.specs.Frames.{Head}
 
@@ -40,3 +40,7 @@ depth_after n (unary u) = n
 abbrev pub leaves_one : ℕ → Expr → Bool
 leaves_one n [] = n == 1
 leaves_one n (o ∷ e) = has_room n o && leaves_one (depth_after n o) e
+
+-- From n working numbers on, an expression was decoded to its end, and leaves one number.
+abbrev pub sound : ℕ → Decoded → Bool
+sound n d = d.whole && leaves_one n d.ops

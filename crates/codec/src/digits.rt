@@ -1,5 +1,5 @@
 // Hexadecimal digits, 0 to 9 and A to F: what each is worth, by a table, and the two digits of a byte.
-ghost use Rattle.std.specs.Prelude.{◌≡◌, ◌/◌, ◌%◌, ◌<◌};
+ghost use Rattle.std.specs.Prelude.{◌≡◌, ◌/◌, ◌%◌, ◌<◌, IfSome, unwrap_or};
 ghost use Rattle.codec.specs.Lines.{worth as worth_of, digit as digit_of};
 
 // The worth of each of the 256 bytes, sixteen a row; 255 (FF) where the byte is no digit.
@@ -21,13 +21,23 @@ const WORTH: &[u8; 256] = b"\
 \xFF\xFF\xFF\xFF\xFF\xFF\xFF\xFF\xFF\xFF\xFF\xFF\xFF\xFF\xFF\xFF\
 \xFF\xFF\xFF\xFF\xFF\xFF\xFF\xFF\xFF\xFF\xFF\xFF\xFF\xFF\xFF\xFF";
 
-// What a byte is worth as a digit.
+// What a byte is worth as a digit; 255 where it is no digit, so that every byte has an answer.
 pub fn worth(byte: u8) -> u8
     ensures { result ≡ worth_of byte }
 {
     WORTH[byte as usize]
 }
 
+// The same; None where it is no digit.
+pub fn digit_worth(byte: u8) -> Option<u8>
+    ensures table { unwrap_or result 255 ≡ worth_of byte }
+    ensures digit { IfSome result (λ w. w < 16) }
+{
+    let worth = WORTH[byte as usize];
+    (worth < 16).then_some(worth)
+}
+
+#[tactic(auto, unfolding(crate::specs::Lines::digit))]
 fn digit(worth: u8) -> u8
     requires { worth < 16 }
     ensures { result ≡ digit_of worth }

@@ -1,8 +1,9 @@
 // Expressions in postfix code: their operations, and what a sound one is.
-ghost use Rattle.std.specs.Prelude.{◌≡◌, ◌<◌, ◌&&◌, length, MatchOption};
+ghost use Rattle.std.specs.Prelude.{◌≡◌, ◌<◌, ◌&&◌, ◌==◌, false, length, MatchOption};
 ghost use Rattle.codec.specs.Expressions.{decode};
-ghost use Rattle.codec.specs.Sound.{declared, leaves_one, op_declared};
-ghost use Rattle.codec.specs.Operations.{First, alone, deepened, op_of, plain_at, stopped};
+ghost use Rattle.codec.specs.Sound.{declared, leaves_one, op_declared, sound};
+ghost use Rattle.std.specs.Iterator.{YieldsFirstBy, item_count};
+ghost use Rattle.codec.specs.Operations.{First, alone, deepened, left, op_of, plain_at, stopped};
 ghost use Rattle.codec.specs.Shapes.{head_of};
 ghost use Rattle.codec.specs.Slots.{perhaps};
 
@@ -72,10 +73,7 @@ pub fn first_op(code: &[u8]) -> Option<(Op, &[u8])>
         [0x02, x, rest @ ..] => Some((Op::Variable(*x), rest)),
         [0x03, t, rest @ ..] => Some((Op::Sample(*t), rest)),
         [0x04, t, rest @ ..] => Some((Op::Held(*t), rest)),
-        [k, rest @ ..] => match plain_op(*k) {
-            Some(op) => Some((op, rest)),
-            None => None,
-        },
+        [k, rest @ ..] => Some((plain_op(*k)?, rest)),
         [] => None,
     }
 }
@@ -91,18 +89,39 @@ fn is_declared(op: Op, head: &Head) -> bool
     }
 }
 
+// The operations of a code, one after another, as far as they can be read.
+#[derive(Drop)]
+pub struct Ops<'a> {
+    rest: &'a [u8],
+}
+
+impl<'a> Ops<'a> {
+    pub fn new(code: &'a [u8]) -> Ops<'a>
+        ensures { left result ≡ (decode 0 code.now).ops }
+    {
+        Ops { rest: code }
+    }
+}
+
+impl<'a> Iterator for Ops<'a> {
+    type Item = Op;
+
+    ghost next_gives = { YieldsFirstBy op_of left };
+
+    ghost remaining = { item_count left };
+
+    fn next(&mut self) -> Option<Op> {
+        let (op, after) = first_op(self.rest)?;
+        self.rest = after;
+        Some(op)
+    }
+}
+
 // Whether every variable and track that can be read in an expression is declared.
 pub fn names_declared(code: &[u8], head: &Head) -> bool
     ensures { result ≡ declared (head_of head.now) (decode 0 code.now).ops }
 {
-    let mut rest = code;
-    while let Some((op, after)) = first_op(rest) {
-        if !is_declared(op, head) {
-            return false;
-        }
-        rest = after;
-    }
-    true
+    Ops::new(code).all(|op| is_declared(op, head))
 }
 
 // The most working numbers that an expression holds at a time.
@@ -113,37 +132,31 @@ fn deepen(op: Op, depth: u8) -> Option<u8>
     ensures { perhaps (λ d. d) result ≡ deepened (op_of op) depth }
 {
     match op {
-        Op::Constant(_) | Op::Variable(_) | Op::Held(_) => {
-            if depth < WORKING {
-                Some(depth + 1)
-            } else {
-                None
-            }
-        }
-        Op::Sample(_) | Op::One(_) => { if depth >= 1 { Some(depth) } else { None } }
-        Op::Two(_) => { if depth >= 2 { Some(depth - 1) } else { None } }
+        Op::Constant(_) | Op::Variable(_) | Op::Held(_) => (depth < WORKING).then(|| depth + 1),
+        Op::Sample(_) | Op::One(_) => (depth >= 1).then_some(depth),
+        Op::Two(_) => (depth >= 2).then(|| depth - 1),
     }
+}
+
+// How many numbers an expression leaves; None where it cannot be read to its end or an operation has no room.
+// By first_op: a try_fold, a for and a while let over Ops were tried and don't prove, since the law of its `next` tells what operations
+// are left, not whether the code is whole.
+fn depth_left(code: &[u8]) -> Option<u8>
+    ensures { MatchOption result (sound 0 (decode 0 code.now) ≡ false) (λ d. sound 0 (decode 0 code.now) ≡ (d == 1)) }
+{
+    let mut rest = code;
+    let mut depth = 0;
+    while !rest.is_empty() {
+        let (op, after) = first_op(rest)?;
+        depth = deepen(op, depth)?;
+        rest = after;
+    }
+    Some(depth)
 }
 
 // Whether an expression can be read to its end, finds its operands, holds at most 16 numbers and leaves one.
 pub fn leaves_one_number(code: &[u8]) -> bool
     ensures { result ≡ (decode 0 code.now).whole && leaves_one 0 (decode 0 code.now).ops }
 {
-    let mut rest = code;
-    let mut depth = 0u8;
-    while !rest.is_empty() {
-        match first_op(rest) {
-            Some((op, after)) => {
-                match deepen(op, depth) {
-                    Some(d) => {
-                        depth = d;
-                    }
-                    None => return false,
-                }
-                rest = after;
-            }
-            None => return false,
-        }
-    }
-    depth == 1
+    depth_left(code) == Some(1)
 }

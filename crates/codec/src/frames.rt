@@ -4,8 +4,8 @@ ghost use Rattle.codec.specs.Slots.{perhaps};
 ghost use Rattle.codec.specs.Shapes.{fitting, read_of};
 ghost use Rattle.codec.specs.Frames.{frame_of};
 
-// What a header declares.
-#[derive(Clone, Copy)]
+// What a header declares, as its bytes stand: which versions and kinds there are is asked by the crates built on this one.
+#[derive(Clone, Copy, Debug, Default, PartialEq)]
 pub struct Head {
     pub version: u8,
     pub kind: u8,
@@ -16,62 +16,45 @@ pub struct Head {
     pub locks: u8,
 }
 
+// What a frame says of a track or of a channel.
+#[derive(Clone, Copy, Debug, PartialEq)]
+pub struct Store {
+    pub number: u8,
+    pub level: u32,
+    pub capacity: u16,
+}
+
 #[derive(Clone, Copy)]
 pub enum Frame<'a> {
     Header(Head),
-    Track {
-        number: u8,
-        level: u32,
-        capacity: u16,
-    },
-    Channel {
-        number: u8,
-        level: u32,
-        capacity: u16,
-    },
-    Thread {
-        number: u8,
-    },
+    Track(Store),
+    Channel(Store),
+    Thread { number: u8 },
     ThreadEnd,
     Skip,
-    Assign {
-        variable: u8,
-        expression: &'a [u8],
-    },
-    Put {
-        channel: u8,
-        expression: &'a [u8],
-    },
-    If {
-        condition: &'a [u8],
-    },
+    Assign { variable: u8, expression: &'a [u8] },
+    Put { channel: u8, expression: &'a [u8] },
+    If { condition: &'a [u8] },
     Else,
     EndIf,
-    While {
-        condition: &'a [u8],
-    },
+    While { condition: &'a [u8] },
     EndWhile,
-    With {
-        locks: u16,
-        condition: &'a [u8],
-    },
+    With { locks: u16, condition: &'a [u8] },
     EndWith,
-    Last {
-        frames: u16,
-    },
+    Last { frames: u16 },
 }
 
 // The most bytes of an expression.
-const LONGEST: usize = 48;
+pub const LONGEST: usize = 48;
 
 // Whether bytes are as many as an expression may have.
 fn fits(expression: &[u8]) -> bool
     ensures { result ≡ fitting (length expression.now) }
 {
-    1 <= expression.len() && expression.len() <= LONGEST
+    (1..=LONGEST).contains(&expression.len())
 }
 
-// The frame that bytes are; None where the kind is unknown or the length is not the kind's.
+// The frame that bytes are; None where the kind is unknown or the length is not the kind's. One pattern for each kind, as the format has them.
 pub fn read_frame(bytes: &[u8]) -> Option<Frame<'_>>
     ensures { perhaps read_of result ≡ frame_of bytes.now }
 {
@@ -94,16 +77,16 @@ pub fn read_frame(bytes: &[u8]) -> Option<Frame<'_>>
             channels: *channels,
             locks: *locks,
         })),
-        [0x02, number, a, b, c, d, high, low] => Some(Frame::Track {
+        [0x02, number, a, b, c, d, high, low] => Some(Frame::Track(Store {
             number: *number,
             level: u32::from_be_bytes([*a, *b, *c, *d]),
             capacity: u16::from_be_bytes([*high, *low]),
-        }),
-        [0x03, number, a, b, c, d, high, low] => Some(Frame::Channel {
+        })),
+        [0x03, number, a, b, c, d, high, low] => Some(Frame::Channel(Store {
             number: *number,
             level: u32::from_be_bytes([*a, *b, *c, *d]),
             capacity: u16::from_be_bytes([*high, *low]),
-        }),
+        })),
         [0x20, number] => Some(Frame::Thread { number: *number }),
         [0x21] => Some(Frame::ThreadEnd),
         [0x30] => Some(Frame::Skip),

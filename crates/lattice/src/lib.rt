@@ -61,7 +61,7 @@ impl Lattice for TwoPoint {
     }
 
     fn join(a: u32, b: u32) -> u32 {
-        if a <= b { b } else { a }
+        a.max(b)
     }
 }
 

@@ -1,3 +1,4 @@
 pub mod Parting
+pub mod Reading
 pub mod Taking
 pub mod Writing

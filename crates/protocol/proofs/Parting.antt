@@ -1,27 +1,13 @@
 -- Where a script ends: the lines so far, and the first that begins with 7F.
-use Rattle.std.proofs.Common.{◌≡◌, ℕ, suc, ◌+◌, ◌-◌, ◌≤◌, Bool, true, false, cond, ◌&&◌, eqb, List, [], ◌∷◌, ◌++◌, map, length, get_or, take, drop, sym, refl, ap, ◌∙◌, append_assoc, append-nil, arith, length-append, eqb-true}
+use Rattle.std.proofs.Common.{◌≡◌, ℕ, suc, ◌+◌, ◌-◌, true, false, cond, List, [], ◌∷◌, ◌++◌, map, length, take, drop, sym, refl, ap, ◌∙◌, append_assoc, append-nil, arith, length-append}
 use mathlib.Core.Option.{Option as Perhaps, some}
 use Rattle.std.specs.List.{AllByRecursion}
-use Rattle.std.proofs.ByRecursion.{All-push}
-use Rattle.std.proofs.lemmas.List.{take_at, drop_at, take_all, drop_all}
+use Rattle.std.proofs.ByRecursion.{All-push, All-weaker}
+use Rattle.std.proofs.lemmas.List.{length-map, take_at, drop_at, take_all, drop_all}
 use Rattle.codec.specs.Lines.{lines}
 use Rattle.codec.specs.Slots.{no_end}
 use Rattle.script.proofs.Stepping.{lines_more, lines_cut}
 use Rattle.protocol.specs.Intake.{Parted, begins_last, script_lines}
-
--- A line that the pattern does not fit.
-both_not : (a b : Bool) → (a ≡ true → b ≡ true → ⊥) → false ≡ a && b
-both_not true true h = absurd (h refl refl)
-both_not true false h = refl
-both_not false b h = refl
-
-pub not_last : (line : List ℕ) → (2 ≤ length line → get_or line 0 0 ≡ 0x37 → get_or line 1 0 ≡ 0x46 → ⊥) → false ≡ begins_last line
-not_last [] h = refl
-not_last (a ∷ []) h = both_not (eqb a 0x37) false (λ p q. let z : ◌≡◌ {A = Bool} false true = q in never z)
-  where
-    never : ◌≡◌ {A = Bool} false true → ⊥
-    never e = let z : ◌≡◌ {A = ℕ} 0 1 = ap (λ b. cond b 1 0) e in omega arith
-not_last (a ∷ b ∷ line) h = both_not (eqb a 0x37) (eqb b 0x46) (λ p q. h (omega arith) (eqb-true a 0x37 p) (eqb-true b 0x46 q))
 
 -- Lines with their ends.
 abbrev pub ended : List (List ℕ) → List ℕ
@@ -47,10 +33,7 @@ ended_more (k ∷ ls) l = ap (λ r. k ++ (0x0A ∷ r)) (ended_more ls l) ∙ sym
 
 -- One line more behind the lines that are gone.
 with_line : (text rest line after : List ℕ) (ls : List (List ℕ)) → text ≡ ended ls ++ rest → rest ≡ line ++ (0x0A ∷ after) → text ≡ ended (ls ++ (line ∷ [])) ++ after
-with_line text rest line after ls t e =
-    t ∙ ap (λ r. ended ls ++ r) (e ∙ sym (append_assoc line (0x0A ∷ []) after))
-    ∙ sym (append_assoc (ended ls) (line ++ (0x0A ∷ [])) after)
-    ∙ ap (λ f. f ++ after) (sym (ended_more ls line))
+with_line text rest line after ls t e = rw (t, e) (simp (ended_more, append_assoc))
 
 pub gone_more : (text rest line after : List ℕ) → Gone text rest → no_end line → rest ≡ line ++ (0x0A ∷ after) → begins_last line ≡ false → Gone text after
 gone_more text rest line after g n e b =
@@ -67,8 +50,7 @@ lines_ended (l ∷ ls) rest h =
     ap lines (append_assoc l (0x0A ∷ ended ls) rest) ∙ lines_more l (ended ls ++ rest) h.0 ∙ ap (λ (r : List (Perhaps (List ℕ))). some l ∷ r) (lines_ended ls rest h.1)
 
 unended : (ls : List (List ℕ)) → AllByRecursion Before ls → AllByRecursion no_end ls
-unended [] h = tt
-unended (l ∷ ls) h = (h.0.0, unended ls h.1)
+unended ls h = All-weaker Before no_end (λ l p. p.0) ls h
 
 count_before : (ls : List (List ℕ)) (more : List (Perhaps (List ℕ))) → AllByRecursion Before ls → script_lines (each ls ++ more) ≡ length ls + script_lines more
 unfolding script_lines
@@ -78,10 +60,6 @@ count_before (l ∷ ls) more h = rw h.0.1 (omega (arith, count_before ls more h.
 count_last : (line : List ℕ) (more : List (Perhaps (List ℕ))) → true ≡ begins_last line → script_lines (some line ∷ more) ≡ 1
 unfolding script_lines
 count_last line more h = ap (λ b. cond b 1 (suc (script_lines more))) (sym h)
-
-length_each : (ls : List (List ℕ)) → length (each ls) ≡ length ls
-length_each [] = refl
-length_each (l ∷ ls) = ap suc (length_each ls)
 
 ends : (ls : List (List ℕ)) (line : List ℕ) → AllByRecursion Before ls → no_end line → AllByRecursion no_end (ls ++ (line ∷ []))
 ends ls line h n = All-push no_end ls line (unended ls h) n
@@ -133,13 +111,9 @@ not_parted text rest g h =
     let count : script_lines (lines text) ≡ length g.before + length (lines rest) =
     ap script_lines all ∙ count_before g.before (lines rest) g.plain ∙ ap (λ n. length g.before + n) (lines_left rest h) in
     let long : length (lines text) ≡ length g.before + length (lines rest) =
-    ap length all ∙ length-append (each g.before) (lines rest) ∙ ap (λ n. n + length (lines rest)) (length_each g.before) in
+    ap length all ∙ length-append (each g.before) (lines rest) ∙ ap (λ n. n + length (lines rest)) (length-map g.before (λ (l : List ℕ). some l)) in
     record {
       whole = append-nil text;
       front = sym (take_all (script_lines (lines text)) (lines text) (omega arith));
       back = sym (drop_all (script_lines (lines text)) (lines text) (omega arith));
     }
-
--- What is left behind a line is no longer than the text.
-pub behind_gone : (text rest line after : List ℕ) → Gone text rest → rest ≡ line ++ (0x0A ∷ after) → length after ≤ length text
-behind_gone text rest line after g e = omega (arith, ap length g.is ∙ length-append (ended g.before) rest, ap length e ∙ length-append line (0x0A ∷ after))

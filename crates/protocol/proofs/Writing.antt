@@ -1,11 +1,13 @@
--- Bytes as digits, one byte more.
-use Rattle.std.proofs.Common.{◌≡◌, ℕ, ◌/◌, ◌%◌, List, [], ◌∷◌, ◌++◌, IfOk, Ok, Err, Result, refl, ap, ◌∙◌}
+-- A line that was put.
+use Rattle.std.proofs.Common.{◌≡◌, ℕ, ◌+◌, ◌/◌, ◌%◌, ◌<◌, length, get_or, take, List, [], ◌∷◌, ◌++◌, IfOk, Ok, Err, Result, ap, ◌∙◌}
+use Rattle.std.proofs.lemmas.List.{take_more}
 use Rattle.codec.specs.Lines.{digit, digits, written}
+use Rattle.script.proofs.Texting.{digits_more}
 
-pub digits_more : (xs : List ℕ) (b : ℕ) → digits (xs ++ (b ∷ [])) ≡ digits xs ++ digits (b ∷ [])
+-- The digits of one byte more.
+pub digits_at : (bytes : List ℕ) (i : ℕ) → i < length bytes → digits (take (i + 1) bytes) ≡ digits (take i bytes) ++ (digit (get_or bytes i 0 / 16) ∷ digit (get_or bytes i 0 % 16) ∷ [])
 unfolding digits
-digits_more [] b = refl
-digits_more (x ∷ xs) b = ap (λ r. digit (x / 16) ∷ digit (x % 16) ∷ r) (digits_more xs b)
+digits_at bytes i h = ap digits (take_more bytes i 0 h) ∙ digits_more (take i bytes) (get_or bytes i 0 ∷ [])
 
 -- What was put is the line of other bytes that are the same.
 pub put_same : {X Y : Type 0} (r : Result X Y) (end start a b : List ℕ) → a ≡ b → IfOk r (λ _. end ≡ start ++ written (a ∷ [])) → IfOk r (λ _. end ≡ start ++ written (b ∷ []))

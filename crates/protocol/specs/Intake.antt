@@ -1,5 +1,5 @@
 -- What a program does with its input before it reads a script.
-use Rattle.std.specs.Prelude.{◌≡◌, ℕ, suc, ◌<◌, ◌≤◌, Bool, false, cond, ◌&&◌, List, [], ◌∷◌, ◌++◌, length, take, drop, Result, MatchResult, ◌==◌, slice_index}
+use Rattle.std.specs.Prelude.{◌≡◌, ℕ, suc, ◌<◌, ◌≤◌, Bool, false, cond, ◌&&◌, List, [], ◌∷◌, ◌++◌, length, take, drop, Result, MatchResult, ◌==◌, slice_index, codes}
 use Rattle.std.proofs.Math.Option.{Option as Perhaps, none, some}
 use Rattle.codec.specs.Lines.{lines}
 use Rattle.script.specs.Refusals.{refusal, run_refusal}
@@ -15,6 +15,11 @@ ShortEnough input r = MatchResult r (λ _. length input ≤ 16384) (λ e. (16384
 abbrev pub kind_number : Kind → ℕ
 kind_number TwoPoint = 1
 kind_number Bits = 2
+
+-- Each kind in words.
+abbrev pub kind_name : Kind → List ℕ
+kind_name TwoPoint = codes "open and closed"
+kind_name Bits = codes "sets of sixteen bits"
 
 -- The kind of levels to read under, by the kind that the header names; a kind that a program has not is read as kind 01, and refused there.
 abbrev pub kind_for : Perhaps ℕ → ℕ

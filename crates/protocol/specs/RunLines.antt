@@ -1,5 +1,5 @@
 -- Run lines: what the bytes of one say, and what a wrong one is refused with.
-use Rattle.std.specs.Prelude.{◌≡◌, ℕ, ◌+◌, ◌*◌, ◌<◌, cond, ◌&&◌, List, [], ◌∷◌, length, drop, ℤ, Ok, Err, Result, MatchResult, ◌==◌, nat_le, slice_index}
+use Rattle.std.specs.Prelude.{◌≡◌, ℕ, suc, ◌+◌, ◌*◌, ◌<◌, cond, ◌&&◌, List, [], ◌∷◌, length, drop, ℤ, Some, None, Ok, Err, Option, MatchOption, Result, MatchResult, ◌==◌, nat_le, slice_index}
 use Rattle.std.proofs.Math.Option.{Option as Perhaps, none, some}
 use Rattle.std.specs.Int.{w32}
 use Rattle.std.proofs.Common.{to_z}
@@ -10,6 +10,7 @@ use Rattle.script.specs.Refusals.{refusal}
 use Rattle.script.specs.declared.faults.LineFault.{LineFault}
 use Rattle.script.specs.declared.faults.Refusal.{Refusal}
 use Rattle.protocol.specs.declared.run_lines.Line as M
+use Rattle.protocol.specs.declared.run_lines.Lines.{Lines}
 use Rattle.protocol.specs.declared.run_lines.Call.{Call}
 use Rattle.protocol.specs.declared.run_lines.Call.TheVariants.{Feed, Advance, Read, Status}
 use Rattle.protocol.specs.declared.run_lines.Scheduling.{Scheduling}
@@ -22,15 +23,25 @@ abbrev pub bytes_taken : Result Slot LineFault → Perhaps (List ℕ)
 bytes_taken (Ok s) = some (front s)
 bytes_taken (Err e) = none
 
--- No line is left.
-abbrev pub NoLine : List ℕ → Type 0
-NoLine text = split text ≡ []
+-- The lines that are still to come, by their bytes.
+abbrev pub lines_left : Lines → List (Perhaps (List ℕ))
+lines_left s = split s.text.now
 
--- The next line is the first of the text, and the lines behind it are left; a fault stands at the line's number.
-pub record TookLine (text : List ℕ) (number : ℕ) (l : M.Line) : Type 0 where
-  pub first : split text ≡ bytes_taken l.bytes ∷ split l.rest.now
-  pub told_at : MatchResult l.bytes Padded (λ e. e.line ≡ number)
-  pub shorter : length l.rest.now < length text
+-- No line is left.
+abbrev pub NoLine : Lines → Type 0
+NoLine s = lines_left s ≡ []
+
+-- The line is the first of those still to come, and has its number, at which a fault stands too; the others are left, under the numbers behind it.
+pub record TookLine (s : Lines) (l : M.Line) (t : Lines) : Type 0 where
+  pub first : lines_left s ≡ bytes_taken l.bytes ∷ lines_left t
+  pub number : l.number ≡ s.number
+  pub told_at : MatchResult l.bytes Padded (λ e. e.line ≡ s.number)
+  pub shorter : length t.text.now < length s.text.now
+  pub next : s.number < 65535 → t.number ≡ suc s.number
+
+-- What the iterator gives: the next line, or None where no line is left.
+abbrev pub NextLine : Lines → Option M.Line → Lines → Type 0
+NextLine s r t = MatchOption r (NoLine s × NoLine t) (λ l. TookLine s l t)
 
 -- What a run line says: who gives the turns, or a call.
 pub data Line : Type 0 where
@@ -80,9 +91,8 @@ scheduling_of (scheduling.PickList picks) = pick_list picks.now
 
 -- A run line of the code.
 abbrev pub line_of : RunLine → Line
-line_of said.RoundRobin = round_robin
-line_of (said.PickList picks) = pick_list picks.now
-line_of said.NoScheduler = no_scheduler
+line_of (said.Scheduler None) = no_scheduler
+line_of (said.Scheduler (Some s)) = scheduling_of s
 line_of (said.Call c) = call_of c
 
 -- An answer of the code by what it says, a fault by what it tells.

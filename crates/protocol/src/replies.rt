@@ -4,9 +4,11 @@ ghost use Rattle.codec.specs.Lines.{digits, written};
 ghost use Rattle.protocol.specs.Replies.{refused_at, reply_bytes};
 
 use codec::digits::digits_of;
-use script::faults::RunFault;
+use script::faults::{Refusal, RunFault};
 use std::alloc::AllocError;
 
+// A reply has in its own fields what its line says: with the entries and counts of runs in it, all that reads an input would
+// depend on the crate runs, for a few names less.
 #[derive(Clone, Copy)]
 pub enum Reply {
     // How many samples a track holds, after one was fed.
@@ -24,7 +26,7 @@ pub enum Reply {
         entries: u16,
         missed: u32,
     },
-    // One entry of a channel.
+    // One entry of a channel. A mark has a value too, which is 0: the line of the format has both fields.
     Entry {
         turn: u32,
         thread: u8,
@@ -43,32 +45,25 @@ pub enum Reply {
 }
 
 // The reply to a fault at a line; a fault of lines has its line itself, one of calls has that of the run line that made the call.
+// Two values make it, so it is no From.
 pub fn refused(fault: RunFault, line: u16) -> Reply
     ensures { result ≡ refused_at fault line }
 {
-    let refusal = fault.refusal();
+    let refusal = Refusal::from(fault);
     Reply::Refused {
         number: refusal.number,
         line: refusal.line.unwrap_or(line),
     }
 }
 
-// Puts the two digits of a byte behind an output.
-fn put_byte(out: &mut Vec<u8>, byte: u8) -> Result<(), AllocError>
-    ensures { OnOk result (out.new.items ≡ out.old.items ++ digits (byte ∷ [])) }
-{
-    let (high, low) = digits_of(byte);
-    out.push(high)?;
-    out.push(low)?;
-    Ok(())
-}
-
 // Puts bytes as a line behind an output.
+#[tactic(auto, unfolding(codec::specs::Lines::digits, codec::specs::Lines::written))]
 fn put_line(out: &mut Vec<u8>, bytes: &[u8]) -> Result<(), AllocError>
     ensures { OnOk result (out.new.items ≡ out.old.items ++ written (bytes.now ∷ [])) }
 {
     for byte in bytes {
-        put_byte(out, *byte)?;
+        let (high, low) = digits_of(*byte);
+        out.extend_from_slice(&[high, low])?;
     }
     out.push(b'\n')?;
     Ok(())
@@ -87,10 +82,11 @@ fn entry_bytes(turn: u32, thread: u8, mark: bool, value: i32) -> [u8; 11]
 {
     let [a, b, c, d] = turn.to_be_bytes();
     let [e, f, g, h] = value.to_be_bytes();
-    [0x61, a, b, c, d, thread, mark as u8, e, f, g, h]
+    [0x61, a, b, c, d, thread, u8::from(mark), e, f, g, h]
 }
 
-// Puts the line of a reply behind an output.
+// Puts the line of a reply behind an output: an arm takes its numbers to bytes itself, and those of the two long lines have a function
+// each. Field by field, each number put by the bytes that to_be_bytes gives, the proof for an entry's value was tried and didn't close.
 pub fn put_reply(out: &mut Vec<u8>, reply: Reply) -> Result<(), AllocError>
     ensures { OnOk result (out.new.items ≡ out.old.items ++ written (reply_bytes reply ∷ [])) }
 {

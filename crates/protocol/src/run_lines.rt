@@ -1,8 +1,11 @@
 // Run lines, behind the script: first the scheduler, then calls.
-ghost use Rattle.std.specs.Prelude.{◌≡◌, MatchOption};
-ghost use Rattle.codec.specs.Slots.{perhaps};
+ghost use Rattle.std.specs.Iterator.{item_count};
+ghost use Rattle.std.specs.Prelude.{◌≡◌, ◌<◌, ◌∷◌, length, IfSome};
+ghost use Rattle.codec.specs.Lines.{split};
+ghost use Rattle.codec.specs.Slots.{Padded, front, perhaps};
 ghost use Rattle.script.specs.Refusals.{script_refusal};
-ghost use Rattle.protocol.specs.RunLines.{NoLine, TookLine, call_line, call_of, first_line, line_of, run_line, scheduler_line, scheduling_of, told};
+ghost use Rattle.script.specs.declared.faults.ScriptFault.TheVariants.{InFrame};
+ghost use Rattle.protocol.specs.RunLines.{NextLine, call_line, call_of, first_line, line_of, lines_left, run_line, scheduler_line, scheduling_of, told};
 
 use codec::lines::{Slot, read_line, split_line};
 use script::faults::{Cause, LineFault, ScriptFault};
@@ -10,11 +13,18 @@ use script::faults::{Cause, LineFault, ScriptFault};
 // The most picks of a scheduler's line.
 pub const PICKS: usize = 32;
 
-// A line of a text, and what stands behind it.
-#[derive(Drop)]
-pub struct Line<'a> {
+// A line of a text: its number, and the bytes that its digits give.
+#[derive(Clone, Copy)]
+pub struct Line {
+    pub number: u16,
     pub bytes: Result<Slot, LineFault>,
-    pub rest: &'a [u8],
+}
+
+// The lines of a text that are still to come, and the number of the first.
+#[derive(Drop)]
+pub struct Lines<'a> {
+    text: &'a [u8],
+    number: u16,
 }
 
 // What is asked of a run.
@@ -33,31 +43,62 @@ pub enum Scheduling<'a> {
     PickList { picks: &'a [u8] },
 }
 
+// What one line behind the script says.
 #[derive(Clone, Copy)]
 pub enum RunLine<'a> {
-    RoundRobin,
-    PickList { picks: &'a [u8] },
-    // It names a scheduler that there is not.
-    NoScheduler,
+    // None where it names a scheduler that there is not.
+    Scheduler(Option<Scheduling<'a>>),
     Call(Call),
 }
 
-// The first line of a text, which has this number; None where no line is left.
-pub fn next_line(text: &[u8], number: u16) -> Option<Line<'_>>
-    ensures { MatchOption result (NoLine text.now) (TookLine text.now number) }
+// The bytes of the first line, and what stands behind it. What no 0A ends is a line too, a faulty one, and the last.
+#[tactic(auto, using(crate::proofs::Taking::line_taken, crate::proofs::Taking::line_cut))]
+fn take_line(text: &[u8]) -> (Option<Slot>, &[u8])
+    requires { 0 < length text.now }
+    ensures first { split text.now ≡ perhaps front result.0 ∷ split result.1.now }
+    ensures slot { IfSome result.0 Padded }
+    ensures shorter { length result.1.now < length text.now }
 {
-    if text.is_empty() {
-        return None;
-    }
     match split_line(text) {
-        Some((line, rest)) => Some(Line {
-            bytes: read_line(line).ok_or(LineFault { line: number }),
-            rest,
-        }),
-        None => Some(Line {
-            bytes: Err(LineFault { line: number }),
-            rest: &[],
-        }),
+        Some((line, rest)) => (read_line(line), rest),
+        None => (None, &[]),
+    }
+}
+
+impl<'a> Lines<'a> {
+    // The lines of a text, the first of which has this number.
+    pub fn numbered(text: &'a [u8], first: u16) -> Lines<'a>
+        ensures text { result.text.now ≡ text.now }
+        ensures first { result.number ≡ first }
+    {
+        Lines {
+            text,
+            number: first,
+        }
+    }
+}
+
+impl Iterator for Lines<'_> {
+    type Item = Line;
+
+    ghost next_gives = { NextLine };
+
+    ghost remaining = { item_count lines_left };
+
+    #[tactic(auto, using(crate::proofs::Taking::nothing_left))]
+    fn next(&mut self) -> Option<Line> {
+        if self.text.is_empty() {
+            return None;
+        }
+        let number = self.number;
+        let (bytes, rest) = take_line(self.text);
+        self.text = rest;
+        // An input has far fewer lines than the count can hold.
+        self.number = number.saturating_add(1);
+        Some(Line {
+            number,
+            bytes: bytes.ok_or(LineFault { line: number }),
+        })
     }
 }
 
@@ -66,12 +107,12 @@ fn read_scheduler(bytes: &[u8]) -> Option<RunLine<'_>>
     ensures { perhaps line_of result ≡ scheduler_line bytes.now }
 {
     match bytes {
-        [0x00] => Some(RunLine::RoundRobin),
-        [0x01, picks @ ..] if 1 <= picks.len() && picks.len() <= PICKS => Some(RunLine::PickList {
-            picks,
-        }),
+        [0x00] => Some(RunLine::Scheduler(Some(Scheduling::RoundRobin))),
+        [0x01, picks @ ..] if (1..=PICKS).contains(&picks.len()) => Some(RunLine::Scheduler(Some(
+            Scheduling::PickList { picks },
+        ))),
         [] | [0x00 | 0x01, ..] => None,
-        [_, rest @ ..] if rest.len() <= PICKS => Some(RunLine::NoScheduler),
+        [_, rest @ ..] if rest.len() <= PICKS => Some(RunLine::Scheduler(None)),
         _ => None,
     }
 }
@@ -95,28 +136,29 @@ pub fn read_run_line(bytes: &[u8]) -> Option<RunLine<'_>>
     }
 }
 
+// What stands at a line is refused for a cause.
+pub fn fault_at(line: u16, cause: Cause) -> ScriptFault
+    ensures { result ≡ InFrame cause line }
+{
+    ScriptFault::InFrame { cause, line }
+}
+
 // The scheduler that the first run line names.
 pub fn read_scheduling(bytes: &[u8], line: u16) -> Result<Scheduling<'_>, ScriptFault>
     ensures { told scheduling_of script_refusal result ≡ first_line (run_line bytes.now) line }
 {
-    let cause = match read_run_line(bytes) {
-        Some(RunLine::RoundRobin) => return Ok(Scheduling::RoundRobin),
-        Some(RunLine::PickList { picks }) => return Ok(Scheduling::PickList { picks }),
-        Some(RunLine::NoScheduler) => Cause::Range,
-        Some(RunLine::Call(_)) => Cause::Order,
-        None => Cause::Shape,
-    };
-    Err(ScriptFault::InFrame { cause, line })
+    match read_run_line(bytes).ok_or(fault_at(line, Cause::Shape))? {
+        RunLine::Scheduler(scheduling) => scheduling.ok_or(fault_at(line, Cause::Range)),
+        RunLine::Call(_) => Err(fault_at(line, Cause::Order)),
+    }
 }
 
 // The call that a later run line makes. The scheduler is named once, so that a second one is out of order.
 pub fn read_call(bytes: &[u8], line: u16) -> Result<Call, ScriptFault>
     ensures { told call_of script_refusal result ≡ call_line (run_line bytes.now) line }
 {
-    let cause = match read_run_line(bytes) {
-        Some(RunLine::Call(call)) => return Ok(call),
-        Some(_) => Cause::Order,
-        None => Cause::Shape,
-    };
-    Err(ScriptFault::InFrame { cause, line })
+    match read_run_line(bytes).ok_or(fault_at(line, Cause::Shape))? {
+        RunLine::Call(call) => Ok(call),
+        RunLine::Scheduler(_) => Err(fault_at(line, Cause::Order)),
+    }
 }

@@ -5,6 +5,7 @@ use Rattle.std.proofs.lemmas.List.{get_or_past}
 use Rattle.std.proofs.lemmas.Bool.{cases_eq, cases_lt}
 use borrow.Author.Tests.{eqb-false}
 use Rattle.lattice.specs.Levels.{Levels}
+use Rattle.codec.specs.Frames.{Frame}
 use Rattle.script.specs.Code.{Script}
 use Rattle.model.specs.Machine.{State, status, status_is_ready, status_is_finished, each_from, all_true, rules, ready_set, all_finished, take_turn, advance}
 use Rattle.model.specs.Threads.{Thread}
@@ -13,6 +14,7 @@ use Rattle.survey.specs.declared.table.Step.{Step}
 use Rattle.runs.specs.declared.Mark.{Mark}
 use Rattle.runs.specs.declared.Entry.{Entry}
 use Rattle.runs.specs.declared.Core.{Core}
+use Rattle.runs.specs.Headers.{Few}
 use Rattle.runs.specs.Flat.{mem, Mem}
 use Rattle.runs.specs.Statuses.{status_now}
 use Rattle.runs.specs.Turns.{Within, AllFit, all_first, ReadyList, over_first, Turned, Advanced}
@@ -72,25 +74,25 @@ all_from f g i (t ∷ ts) same =
 module _ (k : Levels) (table : List Step) (code : List ℕ) (ss : List ℤ) (c : Core) (ms : List Mark) (es : List Entry) where
   pub all_fit : RunningMem table code ss (mem c ms es) → AllFit c table code ms
   all_fit h =
-      let v = h.2.views in
-      record { sized = views_sized c.turns h.0 table code c ms es h.2.ts v; here = λ i lt. (views_fit c.turns h.0 table code c ms es h.2.ts v i lt (omega arith)).here }
+      let v = h.3.views in
+      record { sized = views_sized c.turns h.0 h.1 table code c ms es h.3.ts v; here = λ i lt. (views_fit c.turns h.0 h.1 table code c ms es h.3.ts v i lt (omega arith)).here }
 
   pub below_limit : (over : Bool) → RunningMem table code ss (mem c ms es) → false ≡ (over || eqb c.turns 1000000) → c.turns < 1000000
   below_limit over h e =
-      let le = h.2.views.turns in
+      let le = h.3.views.turns in
       let ne : eqb c.turns 1000000 ≡ false = or_false over (eqb c.turns 1000000) (sym e) in
       ⊎_elim (λ (q : c.turns ≡ 1000000). absurd (eqb-false c.turns 1000000 ne q)) (λ (n : c.turns ≢ 1000000). omega arith) (cases_eq c.turns 1000000)
 
-  module _ (sc : Script) (s : State) (runs : Runs sc table code ss (mem c ms es) s) where
+  module _ (sc : Script) (after : ℕ → List Frame) (s : State) (runs : Runs sc after table code ss (mem c ms es) s) where
     status-same : (i : ℕ) → i < c.head.threads → status_now k table code ss i c ms ≡ status k sc s i
-    status-same i lt = status_is c.turns k sc table code ss c ms es runs.ts runs.views i lt ∙ ap (λ (z : State). status k sc z i) (sym runs.is)
+    status-same i lt = status_is c.turns k sc after table code ss c ms es runs.ts runs.views i lt ∙ ap (λ (z : State). status k sc z i) (sym runs.is)
 
     many : length s.threads ≡ c.head.threads
     many = ap (λ (z : State). length z.threads) runs.is ∙ runs.views.count
 
     pub ready_is : (ready : List Bool) → length ready ≡ 8 → ReadyList k table code ss c ms ready c.head.threads → take c.head.threads ready ≡ ready_set (rules k sc) s
     ready_is ready eight h =
-        let few = runs.views.declares.few in
+        let few = c.few.0 in
         let n = many in
         let f : ℕ → Bool = λ i. status_is_ready (status k sc s i) in
         ext_get_or false (take c.head.threads ready) (ready_set (rules k sc) s) (omega (arith, length-take c.head.threads ready, from_length f 0 s.threads))
@@ -108,10 +110,10 @@ module _ (k : Levels) (table : List Step) (code : List ℕ) (ss : List ℤ) (c :
         ∙ ap (all_first (λ j. status_is_finished (status_now k table code ss j c ms))) e)
 
     -- A rest.
-    pub rest_runs : (o : Option ℕ) → o ≡ None → c.turns < 1000000 → Runs sc table code ss (mem (with_turns c (c.turns + 1)) ms es) (take_turn (rules k sc) s (answered o))
-    rest_runs o e lt =
-        let P : Option ℕ → Type 0 = λ z. Runs sc table code ss (mem (with_turns c (c.turns + 1)) ms es) (take_turn (rules k sc) s (answered z)) in
-        subst P (sym e) (tick c.turns sc table code ss c ms es s lt (record { ts = runs.ts; is = runs.is; counted = refl; fed = runs.fed; views = views_later c.turns sc table code c ms es runs.ts runs.views }))
+    pub rest_runs : (o : Option ℕ) (f : Few c.head) → o ≡ None → c.turns < 1000000 → Runs sc after table code ss (mem (with_turns c (c.turns + 1) f) ms es) (take_turn (rules k sc) s (answered o))
+    rest_runs o f e lt =
+        let P : Option ℕ → Type 0 = λ z. Runs sc after table code ss (mem (with_turns c (c.turns + 1) f) ms es) (take_turn (rules k sc) s (answered z)) in
+        subst P (sym e) (tick c.turns sc after table code ss c ms es s f lt (record { ts = runs.ts; is = runs.is; counted = refl; fed = runs.fed; views = views_later c.turns sc after table code c ms es runs.ts runs.views }))
 
 -- Turns
 
@@ -125,26 +127,26 @@ chosen_within schedule law g rs n (Some i) le e = let lt = holds_within rs i (la
 module _ {G : Type 0} (k : Levels) (schedule : Meaning G) (table : List Step) (code : List ℕ) (ss : List ℤ) where
   pub turn_runs : (c : Core) (ms : List Mark) (es : List Entry) (y : Mem) (g h : G) (ready rs : List Bool) (o : Option ℕ) → length ready ≡ 8 → ReadyList k table code ss c ms ready c.head.threads → rs ≡ take c.head.threads ready
       → answered o ≡ (schedule g rs).0 → h ≡ (schedule g rs).1
-      → ((sc : Script) (s : State) → Runs sc table code ss (mem c ms es) s → Runs sc table code ss y (take_turn (rules k sc) s (answered o)))
-      → (sc : Script) (s : State) → Runs sc table code ss (mem c ms es) s → Turned k schedule table code ss (mem c ms es) y g h sc s
-  turn_runs c ms es y g h ready rs o eight list part answer next takes sc s runs =
-      let same : rs ≡ ready_set (rules k sc) s = part ∙ ready_is k table code ss c ms es sc s runs ready eight list in
-      let P : Perhaps ℕ → Type 0 = λ z. Runs sc table code ss y (take_turn (rules k sc) s z) in
+      → ((sc : Script) (after : ℕ → List Frame) (s : State) → Runs sc after table code ss (mem c ms es) s → Runs sc after table code ss y (take_turn (rules k sc) s (answered o)))
+      → (sc : Script) (after : ℕ → List Frame) (s : State) → Runs sc after table code ss (mem c ms es) s → Turned k schedule table code ss (mem c ms es) y g h sc after s
+  turn_runs c ms es y g h ready rs o eight list part answer next takes sc after s runs =
+      let same : rs ≡ ready_set (rules k sc) s = part ∙ ready_is k table code ss c ms es sc after s runs ready eight list in
+      let P : Perhaps ℕ → Type 0 = λ z. Runs sc after table code ss y (take_turn (rules k sc) s z) in
       record {
-        runs = subst P (answer ∙ ap (λ (l : List Bool). (schedule g l).0) same) (takes sc s runs);
+        runs = subst P (answer ∙ ap (λ (l : List Bool). (schedule g l).0) same) (takes sc after s runs);
         scheduler = next ∙ ap (λ (l : List Bool). (schedule g l).1) same;
       }
 
   -- After some of n turns: what is left gives what the whole gives.
-  pub record Gone (n given : ℕ) (y : Mem) (g h : G) (sc : Script) (s : State) : Type 0 where
+  pub record Gone (n given : ℕ) (y : Mem) (g h : G) (sc : Script) (after : ℕ → List Frame) (s : State) : Type 0 where
     pub state : State
-    pub runs : Runs sc table code ss y state
+    pub runs : Runs sc after table code ss y state
     pub answer : (advance (rules k sc) schedule n s g).0 ≡ given + (advance (rules k sc) schedule (n - given) state h).0
     pub later : (advance (rules k sc) schedule n s g).1 ≡ (advance (rules k sc) schedule (n - given) state h).1
     pub scheduler : (advance (rules k sc) schedule n s g).2 ≡ (advance (rules k sc) schedule (n - given) state h).2
 
-  pub gone_none : (n : ℕ) (x : Mem) (g : G) (sc : Script) (s : State) → Runs sc table code ss x s → Gone n 0 x g g sc s
-  gone_none n x g sc s runs =
+  pub gone_none : (n : ℕ) (x : Mem) (g : G) (sc : Script) (after : ℕ → List Frame) (s : State) → Runs sc after table code ss x s → Gone n 0 x g g sc after s
+  gone_none n x g sc after s runs =
       let e : n ≡ n - 0 = omega arith in
       record {
         state = s;
@@ -154,20 +156,20 @@ module _ {G : Type 0} (k : Levels) (schedule : Meaning G) (table : List Step) (c
         scheduler = ap (λ (m : ℕ). (advance (rules k sc) schedule m s g).2) e;
       }
 
-  stops_is : (c : Core) (ms : List Mark) (es : List Entry) (sc : Script) (s : State) → Runs sc table code ss (mem c ms es) s → (b over : Bool) → over ≡ over_first k table code ss c ms c.head.threads → b ≡ (over || eqb c.turns 1000000) → (all_finished (rules k sc) s || eqb s.turns 1000000) ≡ b
-  stops_is c ms es sc s runs b over o e =
+  stops_is : (c : Core) (ms : List Mark) (es : List Entry) (sc : Script) (after : ℕ → List Frame) (s : State) → Runs sc after table code ss (mem c ms es) s → (b over : Bool) → over ≡ over_first k table code ss c ms c.head.threads → b ≡ (over || eqb c.turns 1000000) → (all_finished (rules k sc) s || eqb s.turns 1000000) ≡ b
+  stops_is c ms es sc after s runs b over o e =
       let t : s.turns ≡ c.turns = ap (λ (z : State). z.turns) runs.is in
-      sym (e ∙ (λ j. (o ∙ over_is k table code ss c ms es sc s runs) j || eqb (sym t j) 1000000))
+      sym (e ∙ (λ j. (o ∙ over_is k table code ss c ms es sc after s runs) j || eqb (sym t j) 1000000))
 
-  pub gone_more : (n given : ℕ) (c : Core) (ms : List Mark) (es : List Entry) (y : Mem) (g h h' : G) (over : Bool) (sc : Script) (s : State) → given < n → over ≡ over_first k table code ss c ms c.head.threads → false ≡ (over || eqb c.turns 1000000)
-      → ((sc : Script) (s : State) → Runs sc table code ss (mem c ms es) s → Turned k schedule table code ss (mem c ms es) y h h' sc s)
-      → Gone n given (mem c ms es) g h sc s → Gone n (given + 1) y g h' sc s
-  gone_more n given c ms es y g h h' over sc s lt o stop step gone =
+  pub gone_more : (n given : ℕ) (c : Core) (ms : List Mark) (es : List Entry) (y : Mem) (g h h' : G) (over : Bool) (sc : Script) (after : ℕ → List Frame) (s : State) → given < n → over ≡ over_first k table code ss c ms c.head.threads → false ≡ (over || eqb c.turns 1000000)
+      → ((sc : Script) (after : ℕ → List Frame) (s : State) → Runs sc after table code ss (mem c ms es) s → Turned k schedule table code ss (mem c ms es) y h h' sc after s)
+      → Gone n given (mem c ms es) g h sc after s → Gone n (given + 1) y g h' sc after s
+  gone_more n given c ms es y g h h' over sc after s lt o stop step gone =
       let u = gone.state in
       let m = n - (given + 1) in
       let e : n - given ≡ suc m = omega arith in
-      let one = step sc u gone.runs in
-      let test = stops_is c ms es sc u gone.runs false over o stop in
+      let one = step sc after u gone.runs in
+      let test = stops_is c ms es sc after u gone.runs false over o stop in
       let told = schedule h (ready_set (rules k sc) u) in
       let later = advance (rules k sc) schedule m (take_turn (rules k sc) u told.0) told.1 in
       let unroll : advance (rules k sc) schedule (n - given) u h ≡ (suc later.0, later.1, later.2) =
@@ -183,26 +185,26 @@ module _ {G : Type 0} (k : Levels) (schedule : Meaning G) (table : List Step) (c
       }
 
   -- Nothing is left.
-  gone_over : (n given : ℕ) (y : Mem) (g h : G) (sc : Script) (s : State) → (gone : Gone n given y g h sc s) → advance (rules k sc) schedule (n - given) gone.state h ≡ (0, gone.state, h) → Advanced k schedule table code ss n given y g h sc s
-  gone_over n given y g h sc s gone e =
+  gone_over : (n given : ℕ) (y : Mem) (g h : G) (sc : Script) (after : ℕ → List Frame) (s : State) → (gone : Gone n given y g h sc after s) → advance (rules k sc) schedule (n - given) gone.state h ≡ (0, gone.state, h) → Advanced k schedule table code ss n given y g h sc after s
+  gone_over n given y g h sc after s gone e =
       let zero_more : given + 0 ≡ given = omega arith in
-      let P : State → Type 0 = λ z. Runs sc table code ss y z in
+      let P : State → Type 0 = λ z. Runs sc after table code ss y z in
       record {
         answer = sym (gone.answer ∙ ap (λ (x : ℕ × State × G). given + x.0) e ∙ zero_more);
         runs = subst P (sym (gone.later ∙ ap (λ (x : ℕ × State × G). x.1) e)) gone.runs;
         scheduler = sym (gone.scheduler ∙ ap (λ (x : ℕ × State × G). x.2) e);
       }
 
-  pub gone_all : (n given : ℕ) (y : Mem) (g h : G) (sc : Script) (s : State) → n ≤ given → Gone n given y g h sc s → Advanced k schedule table code ss n given y g h sc s
-  gone_all n given y g h sc s le gone = let e : n - given ≡ 0 = omega arith in gone_over n given y g h sc s gone (ap (λ (x : ℕ). advance (rules k sc) schedule x gone.state h) e)
+  pub gone_all : (n : ℕ) (y : Mem) (g h : G) (sc : Script) (after : ℕ → List Frame) (s : State) → Gone n n y g h sc after s → Advanced k schedule table code ss n n y g h sc after s
+  gone_all n y g h sc after s gone = let e : n - n ≡ 0 = omega arith in gone_over n n y g h sc after s gone (ap (λ (x : ℕ). advance (rules k sc) schedule x gone.state h) e)
 
-  pub gone_stop : (n given : ℕ) (c : Core) (ms : List Mark) (es : List Entry) (g h : G) (over : Bool) (sc : Script) (s : State) → given < n → over ≡ over_first k table code ss c ms c.head.threads → true ≡ (over || eqb c.turns 1000000)
-      → Gone n given (mem c ms es) g h sc s → Advanced k schedule table code ss n given (mem c ms es) g h sc s
-  gone_stop n given c ms es g h over sc s lt o stop gone =
+  pub gone_stop : (n given : ℕ) (c : Core) (ms : List Mark) (es : List Entry) (g h : G) (over : Bool) (sc : Script) (after : ℕ → List Frame) (s : State) → given < n → over ≡ over_first k table code ss c ms c.head.threads → true ≡ (over || eqb c.turns 1000000)
+      → Gone n given (mem c ms es) g h sc after s → Advanced k schedule table code ss n given (mem c ms es) g h sc after s
+  gone_stop n given c ms es g h over sc after s lt o stop gone =
       let u = gone.state in
       let m = n - (given + 1) in
       let e : n - given ≡ suc m = omega arith in
       let told = schedule h (ready_set (rules k sc) u) in
       let later = advance (rules k sc) schedule m (take_turn (rules k sc) u told.0) told.1 in
-      gone_over n given (mem c ms es) g h sc s gone
-      (ap (λ (x : ℕ). advance (rules k sc) schedule x u h) e ∙ ap (λ (b : Bool). cond b (0, u, h) (suc later.0, later.1, later.2)) (stops_is c ms es sc u gone.runs true over o stop))
+      gone_over n given (mem c ms es) g h sc after s gone
+      (ap (λ (x : ℕ). advance (rules k sc) schedule x u h) e ∙ ap (λ (b : Bool). cond b (0, u, h) (suc later.0, later.1, later.2)) (stops_is c ms es sc after u gone.runs true over o stop))

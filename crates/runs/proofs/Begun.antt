@@ -1,11 +1,14 @@
 -- Where the threads of a script begin.
-use Rattle.std.proofs.Common.{◌≡◌, ℕ, zero, suc, ◌+◌, ◌<◌, ◌≤◌, Bool, true, false, T, List, [], ◌∷◌, length, get_or, drop, set, sym, refl, ap, ◌∙◌, subst, ⊎_elim, arith, drop-cons, get_or-set_other, get_or-set_same}
+use Rattle.std.proofs.Common.{◌≡◌, ℕ, zero, suc, ◌+◌, ◌<◌, ◌≤◌, Bool, false, List, [], ◌∷◌, ◌++◌, length, get_or, drop, set, None, Some, Option, MatchOption, sym, refl, ap, ◌∙◌, subst, ⊎_elim, arith, drop-cons, get_or-set_other, get_or-set_same}
 use mathlib.Core.Option.{none, some}
 use Rattle.std.proofs.lemmas.Bool.{cases_lt}
+use Rattle.std.proofs.lemmas.List.{get_or_append_left}
 use Rattle.lattice.specs.Levels.{Levels}
 use Rattle.codec.specs.Frames.{Frame, Read}
 use Rattle.codec.specs.Frames.Frame.{track, channel, thread, thread_end, last}
-use Rattle.codec.specs.Shapes.{whole}
+use Rattle.codec.specs.Shapes.{read_of, whole}
+use Rattle.codec.specs.Slots.{perhaps}
+use Rattle.codec.specs.declared.frames.Frame.{Frame as CodeFrame}
 use Rattle.script.specs.Code.{Code, Script}
 use Rattle.script.specs.Code.Code.{done}
 use Rattle.script.specs.Slabs.{frame_number}
@@ -13,7 +16,7 @@ use Rattle.script.specs.Trees.{flatten, thread_frames, store_frames, body_frames
 use Rattle.script.proofs.Holding.{held_few}
 use Rattle.survey.specs.declared.Stretch.{Stretch}
 use Rattle.survey.specs.Stretches.{Survey}
-use Rattle.model.specs.Fitting.{frame_at}
+use Rattle.model.specs.Fitting.{frame_at, is_thread_end}
 use Rattle.model.proofs.Places.Skipping.{drop_next, frame_here}
 use Rattle.runs.specs.declared.Place.{Place}
 use Rattle.runs.specs.Flat.{nil_place}
@@ -21,20 +24,20 @@ use Rattle.runs.specs.Declaring.{InSlab}
 use Rattle.runs.specs.Starting.{BeginsAt, ComesTo, NextThread, PlacesAt}
 
 -- The frame that is found at a place is the frame there.
-pub found_there : (fs : List Frame) (at : ℕ) (rd : Read) → some rd ≡ frame_number at fs → rd.frame ≡ frame_at fs at
+found_there : (fs : List Frame) (at : ℕ) (rd : Read) → some rd ≡ frame_number at fs → rd.frame ≡ frame_at fs at
 found_there [] at rd e = let z : ◌≡◌ {A = ℕ} 0 1 = cc in absurd (omega arith)
 found_there (f ∷ fs) zero rd e = let same : rd ≡ whole f = cc in ap (λ (x : Read). x.frame) same
 found_there (f ∷ fs) (suc at) rd e = found_there fs at rd e
 
-pub none_there : (fs : List Frame) (at : ℕ) → none ≡ frame_number at fs → frame_at fs at ≡ last 0
+none_there : (fs : List Frame) (at : ℕ) → none ≡ frame_number at fs → frame_at fs at ≡ last 0
 none_there [] at e = refl
 none_there (f ∷ fs) zero e = let z : ◌≡◌ {A = ℕ} 0 1 = cc in absurd (omega arith)
 none_there (f ∷ fs) (suc at) e = none_there fs at e
 
--- A thread is finished where its frame ends it.
-pub ends_so : (b : Bool) → T b → b ≡ true
-ends_so true t = refl
-ends_so false t = absurd t
+-- So is what is asked of it.
+pub ends_there : (fs : List Frame) (at : ℕ) (b : Bool) (o : Option CodeFrame) → perhaps read_of o ≡ frame_number at fs → MatchOption o (b ≡ false) (λ x. b ≡ is_thread_end (read_of x).frame) → b ≡ is_thread_end (frame_at fs at)
+ends_there fs at b None e m = m ∙ sym (ap is_thread_end (none_there fs at e))
+ends_there fs at b (Some x) e m = m ∙ ap is_thread_end (found_there fs at (read_of x) e)
 
 pub next_thread : (slab : List ℕ) (at : ℕ) (s : Stretch) → Survey slab at s → NextThread slab at (s.end + 2)
 next_thread slab at s survey kind k fs holds c i gs e =
@@ -89,3 +92,9 @@ places_more slab first n at ps p within before here comes kind k sc held begins 
     let A : ℕ → Type 0 = λ x. BeginsAt sc n x × ComesTo slab x p in
     subst Q e (subst R (sym (get_or-set_same ps n p nil_place within)) (subst A (sym comes.place) (here kind k sc held begins, comes))))
     (cases_lt j n)
+
+-- Others may follow them in the list.
+pub places_front : (slab : List ℕ) (first n : ℕ) (ps qs : List Place) → n ≤ length ps → PlacesAt slab first n ps → PlacesAt slab first n (ps ++ qs)
+places_front slab first n ps qs le at kind k sc held begins i lt =
+    let P : Place → Type 0 = λ q. BeginsAt sc i q.at × ComesTo slab q.at q in
+    subst P (sym (get_or_append_left ps qs nil_place i (omega arith))) (at kind k sc held begins i lt)

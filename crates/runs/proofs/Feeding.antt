@@ -7,7 +7,7 @@ use Rattle.lattice.specs.Levels.{Levels}
 use Rattle.scheduler.specs.Turns.{Meaning}
 use Rattle.script.specs.Code.{Script}
 use Rattle.script.specs.declared.faults.RunFault.{RunFault}
-use Rattle.script.specs.declared.faults.RunFault.TheVariants.{NoSuch, TrackFull}
+use Rattle.script.specs.declared.faults.RunFault.TheVariants.{NoState, NoSuch, TrackFull}
 use Rattle.model.specs.Machine.{State, set_track}
 use Rattle.model.specs.Calls.{Answer, perform}
 use Rattle.model.specs.Calls.Call.{feed}
@@ -17,8 +17,10 @@ use Rattle.runs.specs.declared.Mark.{Mark}
 use Rattle.runs.specs.declared.Entry.{Entry}
 use Rattle.runs.specs.declared.Port.{Port}
 use Rattle.runs.specs.declared.Core.{Core}
+use Rattle.runs.specs.Headers.{Few}
+use Rattle.runs.proofs.Bounds.{with_few, same_run}
 use Rattle.runs.specs.Flat.{nil_port, track_of, tracks_of, level_of_port}
-use Rattle.runs.specs.Kept.{room, samples_needed, Laid, Held}
+use Rattle.runs.specs.Kept.{room, samples_needed, Laid, Held, NoPort, PortIn}
 use Rattle.runs.specs.Views.{size_of_port}
 use Rattle.runs.specs.Memory.{memory, StandsFor}
 use Rattle.runs.specs.Answers.{told}
@@ -29,8 +31,18 @@ use Rattle.runs.proofs.Readings.{track_at}
 use Rattle.runs.proofs.Stored.{room_part, room_same}
 
 -- A slot of a track or channel lies in what they hold together.
-pub slot_inside : (ps : List Port) (n h i : ℕ) → Laid ps n → h < n → i < (get_or ps h nil_port).size → (get_or ps h nil_port).start + i < room ps n
+slot_inside : (ps : List Port) (n h i : ℕ) → Laid ps n → h < n → i < (get_or ps h nil_port).size → (get_or ps h nil_port).start + i < room ps n
 slot_inside ps n h i laid below less = let part = room_part ps h n below in let at = laid h below in omega arith
+
+module _ (ps : List Port) (n slots h : ℕ) (p : Port) (found : PortIn ps n slots h p) (laid : Laid ps n) where
+  pub slot_in : (i : ℕ) → i < p.size → p.start + i < room ps n
+  slot_in i = subst (λ (q : Port). i < q.size → q.start + i < room ps n) (sym found.is) (slot_inside ps n h i laid found.below)
+
+  pub size_in : p.size ≤ room ps n
+  size_in = subst (λ (q : Port). q.size ≤ room ps n) (sym found.is) (let part = room_part ps h n found.below in omega arith)
+
+  pub held_in : Held ps n → p.count ≤ p.size
+  held_in held = subst (λ (q : Port). q.count ≤ q.size) (sym found.is) (held h found.below)
 
 -- One track or channel in another's place
 
@@ -172,7 +184,7 @@ module _ (kind : ℕ) (k : Levels) {S : Type 0} (schedule : Meaning S) (t : ℕ)
       subst P (sym does) (is, stands)
 
   -- No such track.
-  pub fed_none : c.head.tracks ≤ t → Feeds kind k schedule t z c g samples c g' samples (Err NoSuch)
+  fed_none : c.head.tracks ≤ t → Feeds kind k schedule t z c g samples c g' samples (Err NoSuch)
   fed_none past = record {
     answer = sym (cond-false (ltb (length samples) (samples_needed c)) _ _ (le-ltb (length samples) (samples_needed c) long) ∙ cond-false (ltb t c.head.tracks) _ _ (le-ltb t c.head.tracks past));
     leaves = (refl, refl);
@@ -187,7 +199,7 @@ module _ (kind : ℕ) (k : Levels) {S : Type 0} (schedule : Meaning S) (t : ℕ)
     fed-port = get_or c.tracks t nil_port
 
     -- A track that is full.
-    pub fed_full : fed-port.size ≤ fed-port.count → Feeds kind k schedule t z c g samples c g' samples (Err TrackFull)
+    fed_full : fed-port.size ≤ fed-port.count → Feeds kind k schedule t z c g samples c g' samples (Err TrackFull)
     fed_full full = record {
       answer = sym
           (cond-false (ltb (length samples) (samples_needed c)) _ _ (le-ltb (length samples) (samples_needed c) long)
@@ -225,10 +237,6 @@ module _ (kind : ℕ) (k : Levels) {S : Type 0} (schedule : Meaning S) (t : ℕ)
               track_sizes = d.track_sizes ∙ sym (fields_same size_of_port c.head.tracks c.tracks t (one_fed fed-port) below refl);
               channel_levels = d.channel_levels;
               channel_sizes = d.channel_sizes;
-              few = d.few;
-              few_variables = d.few_variables;
-              few_tracks = d.few_tracks;
-              few_channels = d.few_channels;
             };
             long = record { samples = omega arith; entries = l.entries; marks = l.marks };
             accounts = record { long = stands.accounts.long; each = stands.accounts.each };
@@ -255,6 +263,41 @@ module _ (kind : ℕ) (k : Levels) {S : Type 0} (schedule : Meaning S) (t : ℕ)
             (free-track k schedule t z sc s g (omega arith) (omega arith)) (ap (λ (n : ℕ). Ok n) one) (stands-fed script entries marks sc s stands);
       }
 
-      -- The same where the sample is known by another term.
-      pub fed_one_as : (y : ℤ) → y ≡ z → Feeds kind k schedule t z c g samples (fed_core c t) g' (fed_samples c t y samples) (Ok (fed-port.count + 1))
-      fed_one_as y is = let P : ℤ → Type 0 = λ x. Feeds kind k schedule t z c g samples (fed_core c t) g' (fed_samples c t x samples) (Ok (fed-port.count + 1)) in subst P (sym is) fed-one
+      -- The same where the sample is known by another term, and the bounds by another proof.
+      fed_one_as : (y : ℤ) (f : Few c.head) → y ≡ z → Feeds kind k schedule t z c g samples (with_few (fed_core c t) f) g' (fed_samples c t y samples) (Ok (fed-port.count + 1))
+      fed_one_as y f is =
+          let P : ℤ → Type 0 = λ x. Feeds kind k schedule t z c g samples (fed_core c t) g' (fed_samples c t x samples) (Ok (fed-port.count + 1)) in
+          let Q : Core → Type 0 = λ x. Feeds kind k schedule t z c g samples x g' (fed_samples c t y samples) (Ok (fed-port.count + 1)) in
+          subst Q (sym (same_run (fed_core c t) f)) (subst P (sym is) fed-one)
+
+-- By the test that the calls share
+
+-- Track t with this many samples and one more.
+abbrev pub counted : Core → ℕ → ℕ → Port
+counted c t n = let q = get_or c.tracks t nil_port in record { level = q.level; start = q.start; size = q.size; count = n + 1; missed = q.missed }
+
+abbrev pub fed_run : (c : Core) → ℕ → ℕ → Few c.head → Core
+fed_run c t n f = record { head = c.head; cells = c.cells; threads = c.threads; tracks = set c.tracks t (counted c t n); channels = c.channels; turns = c.turns; few = f }
+
+module _ (kind : ℕ) (k : Levels) {S : Type 0} (schedule : Meaning S) (t : ℕ) (z : ℤ) (c : Core) (g g' : S) (same : g' ≡ g) (samples : List ℤ) where
+  pub fed_missing : (e : RunFault) → NoPort c.tracks c.head.tracks (length samples) t e → Feeds kind k schedule t z c g samples c g' samples (Err e)
+  fed_missing e none = ⊎_elim
+      (λ (short : (length samples < samples_needed c) × (e ≡ NoState)).
+      subst (λ (f : RunFault). Feeds kind k schedule t z c g samples c g' samples (Err f)) (sym short.1) (record {
+        answer = sym (cond-true (ltb (length samples) (samples_needed c)) _ _ (lt-ltb (length samples) (samples_needed c) short.0));
+        leaves = (refl, refl);
+        scheduler = same;
+        did = λ script entries marks sc s stands. let long = stands.long.samples in let less = short.0 in absurd (omega arith);
+      }))
+      (λ (past : (samples_needed c ≤ length samples) × (c.head.tracks ≤ t) × (e ≡ NoSuch)).
+      subst (λ (f : RunFault). Feeds kind k schedule t z c g samples c g' samples (Err f)) (sym past.2) (fed_none kind k schedule t z c g g' same samples past.0 past.1))
+      none
+
+  module _ (p : Port) (found : PortIn c.tracks c.head.tracks (length samples) t p) (many : c.head.tracks ≤ length c.tracks) (laid : Laid c.tracks c.head.tracks) (held : Held c.tracks c.head.tracks) where
+    pub fed_beyond : p.size ≤ p.count → Feeds kind k schedule t z c g samples c g' samples (Err TrackFull)
+    fed_beyond full = fed_full kind k schedule t z c g g' same samples found.enough many laid held found.below (subst (λ (q : Port). q.size ≤ q.count) found.is full)
+
+    pub fed_found : p.count < p.size → (y : ℤ) (f : Few c.head) → y ≡ z → Feeds kind k schedule t z c g samples (fed_run c t p.count f) g' (set samples (p.start + p.count) y) (Ok (p.count + 1))
+    fed_found free y f is =
+        subst (λ (q : Port). Feeds kind k schedule t z c g samples (fed_run c t q.count f) g' (set samples (q.start + q.count) y) (Ok (q.count + 1))) (sym found.is)
+        (fed_one_as kind k schedule t z c g g' same samples found.enough many laid held found.below (subst (λ (q : Port). q.count < q.size) found.is free) y f is)

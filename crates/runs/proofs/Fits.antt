@@ -23,7 +23,6 @@ use Rattle.runs.specs.declared.Core.{Core}
 use Rattle.runs.specs.Flat.{nil_mark, nil_place, first_mark, pace_at, head_of_core, FitNow, SoundStep, Sized, Fit}
 use Rattle.survey.specs.Table.{step_at_place, Holds}
 use Rattle.runs.specs.Views.{openers, Leveled, ThreadView, Views}
-use Rattle.model.specs.Fitting.{behind_thread}
 use Rattle.runs.proofs.Marks.{leveled_length}
 use Rattle.runs.proofs.Guards.{reads}
 use Rattle.runs.proofs.Stepping.{next_place, beyond_here}
@@ -66,23 +65,18 @@ opener_within fs r ms b (suc n) (in_lock k c ∷ os) o d lt = ⊎_elim
     (λ (e : d ≡ n). subst (λ (z : ℕ). (get_or ms (b + z) nil_mark).opener < length fs) (sym e) (stands_within _ fs (lock k o.0.0 o.0.1 c) os r o.0.2))
     (λ ne. opener_within fs r ms b n os o.1 d (omega arith)) (cases_eq d n)
 
-module _ (most : ℕ) (sc : Script) (table : List Step) (code : List ℕ) (c : Core) (ms : List Mark) (es : List Entry) (ts : List Thread) (v : Views most sc table code c ms es ts) where
+module _ (most : ℕ) (sc : Script) (after : ℕ → List Frame) (table : List Step) (code : List ℕ) (c : Core) (ms : List Mark) (es : List Entry) (ts : List Thread) (v : Views most sc after table code c ms es ts) where
   pub views_sized : Sized c table ms
   views_sized =
-      let d = v.declares in
       let long = v.tabled.long in
       let few = v.tabled.few in
       record {
-        few = d.few;
-        variables = d.few_variables;
-        tracks = d.few_tracks;
-        channels = d.few_channels;
         turns = v.turns;
         short = omega arith;
         room = v.room;
         deep = λ j lt. (v.threads j lt).deep;
-        placed = λ j lt. let t = v.threads j lt in let w : (get_or c.threads j nil_place).at < length (script_frames sc) = stands_within _ (script_frames sc) (get_or ts j ended).code (get_or ts j ended).inside (behind_thread sc j) t.stands.stands.here in omega arith;
-        openers = λ j k lt lk. let t = v.threads j lt in let w : (get_or ms (first_mark j + k) nil_mark).opener < length (script_frames sc) = opener_within (script_frames sc) (behind_thread sc j) ms (first_mark j) (get_or c.threads j nil_place).depth (get_or ts j ended).inside t.stands.stands.opened k lk in omega arith;
+        placed = λ j lt. let t = v.threads j lt in let w : (get_or c.threads j nil_place).at < length (script_frames sc) = stands_within _ (script_frames sc) (get_or ts j ended).code (get_or ts j ended).inside (after j) t.stands.stands.here in omega arith;
+        openers = λ j k lt lk. let t = v.threads j lt in let w : (get_or ms (first_mark j + k) nil_mark).opener < length (script_frames sc) = opener_within (script_frames sc) (after j) ms (first_mark j) (get_or c.threads j nil_place).depth (get_or ts j ended).inside t.stands.stands.opened k lk in omega arith;
       }
 
   module _ (i : ℕ) (within : i < c.head.threads) where
@@ -93,7 +87,7 @@ module _ (most : ℕ) (sc : Script) (table : List Step) (code : List ℕ) (c : C
     step_now = step_at_place table at_now.at
 
     abbrev View : Thread → Type 0
-    View t = ThreadView (head_of_core c) (script_frames sc) (behind_thread sc i) table ms i at_now t
+    View t = ThreadView (head_of_core c) (script_frames sc) (after i) table ms i at_now t
 
     abbrev Fits : Pace → Kind → Type 0
     Fits q kd = FitNow q kd c table code at_now step_now
@@ -119,44 +113,44 @@ module _ (most : ℕ) (sc : Script) (table : List Step) (code : List ℕ) (c : C
     fits-case : (cd : Code) (pc : ModelPace) (os : List Open) → View (record { code = cd; pace = pc; inside = os }) → Fits at_now.pace step_now.kind
     fits-case cd (idling n) [] tv = absurd tv.idles
     fits-case cd (idling n) (in_branch l w a b next ∷ os) tv =
-        let P : Code → Type 0 = λ x. drop at_now.at (script_frames sc) ≡ flatten x (flatten_inside (in_branch l w a b next ∷ os) (behind_thread sc i)) in
+        let P : Code → Type 0 = λ x. drop at_now.at (script_frames sc) ≡ flatten x (flatten_inside (in_branch l w a b next ∷ os) (after i)) in
         let Q : Pace → Type 0 = λ q. Fits q step_now.kind in
         let here = subst P tv.stands.idle tv.stands.stands.here in
-        subst Q (sym tv.paced) (deeper _ os tv.leveled, inside-table _ next os (behind_thread sc i) (beyond_here most sc table code c ms es ts v i w l a b next os (behind_thread sc i) here))
+        subst Q (sym tv.paced) (deeper _ os tv.leveled, inside-table _ next os (after i) (beyond_here most sc after table code c ms es ts v i w l a b next os (after i) here))
     fits-case cd (idling n) (in_loop e b next ∷ os) tv = absurd tv.idles
     fits-case cd (idling n) (in_lock x next ∷ os) tv = absurd tv.idles
     fits-case done running [] tv = at_kind End tv.paced (reads (head_of_core c) code table (script_frames sc) v.tabled at_now.at _ tv.stands.stands.here) tt
     fits-case done running (in_branch l true a b next ∷ os) tv =
         let here = tv.stands.stands.here in
         let r = reads (head_of_core c) code table (script_frames sc) v.tabled at_now.at _ here in
-        at_kind Else tv.paced r.0 (inside-table step_now.other next os (behind_thread sc i) (ap (λ (n : ℕ). drop n (script_frames sc)) r.1 ∙ past_lands at_now.at (script_frames sc) else end_if b _ refl here), deeper _ os tv.leveled)
+        at_kind Else tv.paced r.0 (inside-table step_now.other next os (after i) (ap (λ (n : ℕ). drop n (script_frames sc)) r.1 ∙ past_lands at_now.at (script_frames sc) else end_if b _ refl here), deeper _ os tv.leveled)
     fits-case done running (in_branch l false a b next ∷ os) tv =
         let here = tv.stands.stands.here in
-        at_kind EndIf tv.paced (reads (head_of_core c) code table (script_frames sc) v.tabled at_now.at _ here) (inside-table (at_now.at + 1) next os (behind_thread sc i) (next_place at_now.at _ here), deeper _ os tv.leveled)
+        at_kind EndIf tv.paced (reads (head_of_core c) code table (script_frames sc) v.tabled at_now.at _ here) (inside-table (at_now.at + 1) next os (after i) (next_place at_now.at _ here), deeper _ os tv.leveled)
     fits-case done running (in_loop e b next ∷ os) tv =
         at_kind EndWhile tv.paced (reads (head_of_core c) code table (script_frames sc) v.tabled at_now.at _ tv.stands.stands.here) (deeper _ os tv.leveled)
     fits-case done running (in_lock x next ∷ os) tv =
         let here = tv.stands.stands.here in
-        at_kind EndWith tv.paced (reads (head_of_core c) code table (script_frames sc) v.tabled at_now.at _ here) (inside-table (at_now.at + 1) next os (behind_thread sc i) (next_place at_now.at _ here), deeper _ os tv.leveled)
+        at_kind EndWith tv.paced (reads (head_of_core c) code table (script_frames sc) v.tabled at_now.at _ here) (inside-table (at_now.at + 1) next os (after i) (next_place at_now.at _ here), deeper _ os tv.leveled)
     fits-case (skip cd) running os tv =
         let here = tv.stands.stands.here in
-        at_kind Skip tv.paced (reads (head_of_core c) code table (script_frames sc) v.tabled at_now.at _ here) (inside-table (at_now.at + 1) cd os (behind_thread sc i) (next_place at_now.at _ here))
+        at_kind Skip tv.paced (reads (head_of_core c) code table (script_frames sc) v.tabled at_now.at _ here) (inside-table (at_now.at + 1) cd os (after i) (next_place at_now.at _ here))
     fits-case (assign x e cd) running os tv =
         let here = tv.stands.stands.here in
         let r = reads (head_of_core c) code table (script_frames sc) v.tabled at_now.at _ here in
         let lt = ltb→lt x c.head.variables tv.valid.code.0 in
-        at_kind Assign tv.paced r.0 (inside-table (at_now.at + 1) cd os (behind_thread sc i) (next_place at_now.at _ here), omega (arith, r.1), sound e r.2)
+        at_kind Assign tv.paced r.0 (inside-table (at_now.at + 1) cd os (after i) (next_place at_now.at _ here), omega (arith, r.1), sound e r.2)
     fits-case (put h e cd) running os tv =
         let here = tv.stands.stands.here in
         let r = reads (head_of_core c) code table (script_frames sc) v.tabled at_now.at _ here in
         let lt = ltb→lt h c.head.channels tv.valid.code.0 in
-        at_kind Put tv.paced r.0 (inside-table (at_now.at + 1) cd os (behind_thread sc i) (next_place at_now.at _ here), omega (arith, r.1), sound e r.2)
+        at_kind Put tv.paced r.0 (inside-table (at_now.at + 1) cd os (after i) (next_place at_now.at _ here), omega (arith, r.1), sound e r.2)
     fits-case (branch e a b cd) running os tv =
         let here = tv.stands.stands.here in
         let r = reads (head_of_core c) code table (script_frames sc) v.tabled at_now.at _ here in
         at_kind If tv.paced r.0 (
-          inside-table (at_now.at + 1) a (in_branch 0 true a b cd ∷ os) (behind_thread sc i) (next_place at_now.at _ here),
-          inside-table step_now.other b (in_branch 0 false a b cd ∷ os) (behind_thread sc i) (ap (λ (n : ℕ). drop n (script_frames sc)) r.1 ∙ past_lands at_now.at (script_frames sc) (if e) else a _ refl here),
+          inside-table (at_now.at + 1) a (in_branch 0 true a b cd ∷ os) (after i) (next_place at_now.at _ here),
+          inside-table step_now.other b (in_branch 0 false a b cd ∷ os) (after i) (ap (λ (n : ℕ). drop n (script_frames sc)) r.1 ∙ past_lands at_now.at (script_frames sc) (if e) else a _ refl here),
           shallow os tv.leveled tv.valid.code.0,
           sound e r.2,
         )
@@ -164,8 +158,8 @@ module _ (most : ℕ) (sc : Script) (table : List Step) (code : List ℕ) (c : C
         let here = tv.stands.stands.here in
         let r = reads (head_of_core c) code table (script_frames sc) v.tabled at_now.at _ here in
         at_kind While tv.paced r.0 (
-          inside-table (at_now.at + 1) b (in_loop e b cd ∷ os) (behind_thread sc i) (next_place at_now.at _ here),
-          inside-table step_now.other cd os (behind_thread sc i) (ap (λ (n : ℕ). drop n (script_frames sc)) r.1 ∙ past_lands at_now.at (script_frames sc) (while e) end_while b _ refl here),
+          inside-table (at_now.at + 1) b (in_loop e b cd ∷ os) (after i) (next_place at_now.at _ here),
+          inside-table step_now.other cd os (after i) (ap (λ (n : ℕ). drop n (script_frames sc)) r.1 ∙ past_lands at_now.at (script_frames sc) (while e) end_while b _ refl here),
           shallow os tv.leveled tv.valid.code.0,
           sound e r.2,
         )
@@ -173,7 +167,7 @@ module _ (most : ℕ) (sc : Script) (table : List Step) (code : List ℕ) (c : C
         let here = tv.stands.stands.here in
         let r = reads (head_of_core c) code table (script_frames sc) v.tabled at_now.at _ here in
         at_kind With tv.paced r.0
-        (inside-table (at_now.at + 1) b (in_lock x cd ∷ os) (behind_thread sc i) (next_place at_now.at _ here), shallow os tv.leveled tv.valid.code.0, sound e r.2)
+        (inside-table (at_now.at + 1) b (in_lock x cd ∷ os) (after i) (next_place at_now.at _ here), shallow os tv.leveled tv.valid.code.0, sound e r.2)
 
     pub views_fit : most ≤ c.turns → Fit c table code ms es i
     views_fit le =

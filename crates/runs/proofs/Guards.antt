@@ -11,17 +11,18 @@ use Rattle.runs.specs.declared.Mark.{Mark}
 use Rattle.runs.specs.declared.Place.{Place}
 use Rattle.runs.specs.Flat.{nil_mark, guard_marks, guard_threads, first_mark, nil_place}
 use Rattle.survey.specs.Stretches.{has_bit}
-use Rattle.survey.specs.Table.{step_at_place, Reads, Tabled}
-use Rattle.runs.specs.Views.{openers, Leveled, ThreadView}
+use Rattle.survey.specs.Filling.{outer_first}
+use Rattle.survey.specs.Table.{step_at_place, Reads}
+use Rattle.runs.specs.Views.{openers, Leveled, TabledForTurns, ThreadView, Unless}
 
 pub no_bit : (x : ℕ) → has_bit 0 x ≡ false
 no_bit x = ap (λ (n : ℕ). eqb (n % 2) 1) (zero-div (2 ^ x))
 
 -- What a step says at a place whose frames are known.
-pub reads : (h : Head) (code : List ℕ) (table : List Step) (fs : List Frame) → Tabled h code table fs → (p : ℕ) (gs : List Frame) → drop p fs ≡ gs → Reads h code p (step_at_place table p) gs
-reads h code table fs tabled p gs e = subst (Reads h code p (step_at_place table p)) e (tabled.here p)
+pub reads : (h : Head) (code : List ℕ) (table : List Step) (fs : List Frame) → TabledForTurns h code table fs → (p : ℕ) (gs : List Frame) → drop p fs ≡ gs → Unless (outer_first gs) (Reads h code p (step_at_place table p) gs)
+reads h code table fs tabled p gs e = subst (λ (fs : List Frame). Unless (outer_first fs) (Reads h code p (step_at_place table p) fs)) e (tabled.here p)
 
-module _ (k : Levels) (h : Head) (code : List ℕ) (table : List Step) (fs : List Frame) (tabled : Tabled h code table fs) (x : ℕ) (small : x < 64) where
+module _ (k : Levels) (h : Head) (code : List ℕ) (table : List Step) (fs : List Frame) (tabled : TabledForTurns h code table fs) (x : ℕ) (small : x < 64) where
   unassigned : (mask acc l : ℕ) → mask ≡ 0 → cond (has_bit mask x) (k.join acc l) acc ≡ acc
   unassigned mask acc l e = ap (λ (n : ℕ). cond (has_bit n x) (k.join acc l) acc) e ∙ ap (λ (b : Bool). cond b (k.join acc l) acc) (no_bit x)
 

@@ -15,6 +15,7 @@ use Rattle.runs.specs.declared.Place.{Place}
 use Rattle.runs.specs.declared.Port.{Port}
 use Rattle.runs.specs.declared.Entry.{Entry}
 use Rattle.runs.specs.declared.Core.{Core}
+use Rattle.runs.specs.Headers.{Few}
 use Rattle.runs.specs.Flat.{Mem, mem, nil_mark, nil_place, nil_port, nil_entry, first_mark, value_at, added_port, added_entries, arrive_in, with_channels, new_entry, may_put, stepped, after_turn, Fit, FitNow}
 use Rattle.runs.specs.Leaves.{Grown, Outside, Leaves}
 
@@ -44,14 +45,14 @@ leaves_on x y z a b = record {
 
 module _ (c : Core) (ms : List Mark) (es : List Entry) where
   -- Only cells, places and the count of turns change.
-  abbrev moved : List Cell → List Place → ℕ → Core
-  moved cs ps n = record { head = c.head; cells = cs; threads = ps; tracks = c.tracks; channels = c.channels; turns = n }
+  abbrev moved : List Cell → List Place → ℕ → Few c.head → Core
+  moved cs ps n f = record { head = c.head; cells = cs; threads = ps; tracks = c.tracks; channels = c.channels; turns = n; few = f }
 
-  pub leaves_moved : (cs : List Cell) (ps : List Place) (n : ℕ) → Leaves (mem c ms es) (mem (moved cs ps n) ms es)
-  leaves_moved cs ps n = record { head = refl; tracks = refl; ports = λ h. ports_agree _; long_marks = refl; long_entries = refl; marks = λ j le. refl; entries = λ j out. refl }
+  pub leaves_moved : (cs : List Cell) (ps : List Place) (n : ℕ) (f : Few c.head) → Leaves (mem c ms es) (mem (moved cs ps n f) ms es)
+  leaves_moved cs ps n f = record { head = refl; tracks = refl; ports = λ h. ports_agree _; long_marks = refl; long_entries = refl; marks = λ j le. refl; entries = λ j out. refl }
 
   -- A mark of one of eight threads as well.
-  leaves_marked : (cs : List Cell) (ps : List Place) (n m : ℕ) (v : Mark) → m < 128 → Leaves (mem c ms es) (mem (moved cs ps n) (set ms m v) es)
+  leaves_marked : (cs : List Cell) (ps : List Place) (n m : ℕ) (v : Mark) → m < 128 → Leaves (mem c ms es) (mem (moved cs ps n c.few) (set ms m v) es)
   leaves_marked cs ps n m v lt = record {
     head = refl;
     tracks = refl;
@@ -76,7 +77,7 @@ module _ (c : Core) (ms : List Mark) (es : List Entry) where
     port = get_or c.channels h nil_port
 
     abbrev put_on : Core
-    put_on = record { head = c.head; cells = c.cells; threads = ps; tracks = c.tracks; channels = set c.channels h (added_port port); turns = c.turns }
+    put_on = record { head = c.head; cells = c.cells; threads = ps; tracks = c.tracks; channels = set c.channels h (added_port port); turns = c.turns; few = c.few }
 
     here : get_or (set c.channels h (added_port port)) h nil_port ≡ added_port port
     here = get_or-set_same c.channels h (added_port port) nil_port (omega arith)
@@ -122,33 +123,33 @@ module _ (k : Levels) (table : List Step) (code : List ℕ) (ss : List ℤ) (i :
 
   -- The slot of a mark that is opened.
   slot : at_now.depth < 16 → first_mark i + at_now.depth < 128
-  slot deep = let few = fit.sized.few in let mine = fit.thread in omega arith
+  slot deep = let few = c.few.0 in let mine = fit.thread in omega arith
 
   -- A put leaves something, or nothing.
   put_way : (h : ℕ) (e : Entry) → h < 8 → h < c.head.channels → (b : Bool)
       → Leaves (mem c ms es) (mem (arrive_in table i (cond b (with_channels c (set c.channels h (added_port (get_or c.channels h nil_port)))) c) (at_now.at + 1) at_now.depth) ms (cond b (added_entries (get_or c.channels h nil_port) e es) es))
   put_way h e below mine true = leaves-put c ms es long h below mine e _
-  put_way h e below mine false = leaves_moved c ms es _ _ _
+  put_way h e below mine false = leaves_moved c ms es _ _ _ _
 
   leaves_by : (q : Pace) (kd : Kind) → FitNow q kd c table code at_now step_now → Leaves (mem c ms es) (stepped k table code ss i q kd (mem c ms es) at_now step_now)
   leaves_by Finished kd f = leaves_none _
-  leaves_by (Idling n) kd f = either c ms es (eqb n 0) _ _ (leaves_moved c ms es _ _ _) (leaves_moved c ms es _ _ _)
+  leaves_by (Idling n) kd f = either c ms es (eqb n 0) _ _ (leaves_moved c ms es _ _ _ _) (leaves_moved c ms es _ _ _ _)
   leaves_by Running Other f = leaves_none _
   leaves_by Running Begin f = leaves_none _
   leaves_by Running End f = leaves_none _
-  leaves_by Running Skip f = leaves_moved c ms es _ _ _
-  leaves_by Running Assign f = leaves_moved c ms es _ _ _
+  leaves_by Running Skip f = leaves_moved c ms es _ _ _ _
+  leaves_by Running Assign f = leaves_moved c ms es _ _ _ _
   leaves_by Running Put f =
-      let few = fit.sized.channels in
+      let few = c.few.3 in
       let below : step_now.number < c.head.channels = f.1 in
       put_way step_now.number (new_entry k code ss i c step_now) (omega arith) below (may_put k table code ss i c ms at_now step_now)
   leaves_by Running If f = leaves_marked c ms es _ _ _ _ _ (slot f.2)
-  leaves_by Running Else f = either c ms es _ _ _ (leaves_moved c ms es _ _ _) (leaves_moved c ms es _ _ _)
-  leaves_by Running EndIf f = either c ms es _ _ _ (leaves_moved c ms es _ _ _) (leaves_moved c ms es _ _ _)
-  leaves_by Running While f = or_opens c ms es (is_zero (value_at c ss (bytes_of code step_now))) _ _ _ (leaves_moved c ms es _ _ _) (leaves_marked c ms es _ _ _ _ _ (slot f.2))
-  leaves_by Running EndWhile f = leaves_moved c ms es _ _ _
+  leaves_by Running Else f = either c ms es _ _ _ (leaves_moved c ms es _ _ _ _) (leaves_moved c ms es _ _ _ _)
+  leaves_by Running EndIf f = either c ms es _ _ _ (leaves_moved c ms es _ _ _ _) (leaves_moved c ms es _ _ _ _)
+  leaves_by Running While f = or_opens c ms es (is_zero (value_at c ss (bytes_of code step_now))) _ _ _ (leaves_moved c ms es _ _ _ _) (leaves_marked c ms es _ _ _ _ _ (slot f.2))
+  leaves_by Running EndWhile f = leaves_moved c ms es _ _ _ _
   leaves_by Running With f = leaves_marked c ms es _ _ _ _ _ (slot f.1)
-  leaves_by Running EndWith f = leaves_moved c ms es _ _ _
+  leaves_by Running EndWith f = leaves_moved c ms es _ _ _ _
 
   pub turn_leaves : Leaves (mem c ms es) (after_turn k table code ss i (mem c ms es))
   turn_leaves = leaves_by at_now.pace step_now.kind fit.here

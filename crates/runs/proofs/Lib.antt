@@ -1,4 +1,5 @@
 pub mod Loops
+pub mod Firsts
 pub mod Marks
 pub mod Guards
 pub mod Raising
@@ -21,5 +22,6 @@ pub mod Viewing
 pub mod Found
 pub mod Advanced
 pub mod Making
+pub mod Bounds
 pub mod Feeding
 pub mod Looking

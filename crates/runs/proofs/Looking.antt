@@ -1,12 +1,13 @@
 -- Reading: what a run's channels tell is what the machine's channels do.
-use Rattle.std.proofs.Common.{◌≡◌, ℕ, ◌+◌, ◌<◌, ◌≤◌, true, ◌&&◌, ltb, List, length, get_or, take, drop, ℤ, Ok, Err, sym, ap, ◌∙◌, arith, length-drop, length-take-le, get_or-drop, get_or-take, le-ltb, lt-ltb}
+use Rattle.std.proofs.Common.{◌≡◌, ℕ, ◌+◌, ◌<◌, ◌≤◌, true, ◌&&◌, ltb, List, length, get_or, take, drop, ℤ, Ok, Err, sym, ap, ◌∙◌, subst, ⊎_elim, arith, length-drop, length-take-le, get_or-drop, get_or-take, le-ltb, lt-ltb}
 use lib.ListN.{get_or-map}
 use Rattle.std.proofs.lemmas.List.{length-map}
 use Rattle.std.proofs.lemmas.Bool.{and_from, and_left, and_right, cond-false, cond-true}
 use Rattle.lattice.specs.Levels.{Levels}
 use Rattle.scheduler.specs.Turns.{Meaning}
 use Rattle.script.specs.Code.{Script}
-use Rattle.script.specs.declared.faults.RunFault.TheVariants.{NoSuch}
+use Rattle.script.specs.declared.faults.RunFault.{RunFault}
+use Rattle.script.specs.declared.faults.RunFault.TheVariants.{NoState, NoSuch}
 use Rattle.model.specs.Machine.{State, Channel, unused}
 use Rattle.model.specs.Calls.{no_entry, perform}
 use Rattle.model.specs.Calls.Call.{count, entry}
@@ -17,7 +18,7 @@ use Rattle.runs.specs.declared.Entry.{Entry}
 use Rattle.runs.specs.declared.Port.{Port}
 use Rattle.runs.specs.declared.Core.{Core}
 use Rattle.runs.specs.Flat.{nil_entry, nil_port, channel_of, entry_of}
-use Rattle.runs.specs.Kept.{entries_needed, Laid, Held}
+use Rattle.runs.specs.Kept.{entries_needed, Laid, Held, NoPort, PortIn}
 use Rattle.runs.specs.Memory.{memory, StandsFor}
 use Rattle.runs.specs.Answers.{as_entry, told_count, told_entry}
 use Rattle.runs.specs.Calls.{Counts, Finds}
@@ -95,7 +96,7 @@ module _ (kind : ℕ) (k : Levels) {S : Type 0} (schedule : Meaning S) (h : ℕ)
 
   module _ (past : c.head.channels ≤ h) where
     -- No such channel.
-    pub counts_none : Counts kind k schedule h c g entries (Err NoSuch)
+    counts_none : Counts kind k schedule h c g entries (Err NoSuch)
     counts_none = record {
       answer = sym (cond-false (ltb (length entries) (entries_needed c)) _ _ (le-ltb (length entries) (entries_needed c) long) ∙ cond-false (ltb h c.head.channels) _ _ (le-ltb h c.head.channels past));
       did = λ script samples marks sc s stands.
@@ -103,7 +104,7 @@ module _ (kind : ℕ) (k : Levels) {S : Type 0} (schedule : Meaning S) (h : ℕ)
           sym (ap told_count (count_none k schedule h sc s g (omega arith)));
     }
 
-    pub finds_none : (i : ℕ) → Finds kind k schedule h i c g entries (Err NoSuch)
+    finds_none : (i : ℕ) → Finds kind k schedule h i c g entries (Err NoSuch)
     finds_none i = record {
       answer = sym (cond-false (ltb (length entries) (entries_needed c)) _ _ (le-ltb (length entries) (entries_needed c) long) ∙ cond-false (ltb h c.head.channels) _ _ (le-ltb h c.head.channels past));
       did = λ script samples marks sc s stands.
@@ -113,7 +114,7 @@ module _ (kind : ℕ) (k : Levels) {S : Type 0} (schedule : Meaning S) (h : ℕ)
 
   module _ (laid : Laid c.channels c.head.channels) (held : Held c.channels c.head.channels) (below : h < c.head.channels) where
     -- The count and the missed.
-    pub counts_one : Counts kind k schedule h c g entries (Ok (record { entries = port.count; missed = port.missed }))
+    counts_one : Counts kind k schedule h c g entries (Ok (record { entries = port.count; missed = port.missed }))
     counts_one = record {
       answer = sym (cond-false (ltb (length entries) (entries_needed c)) _ _ (le-ltb (length entries) (entries_needed c) long) ∙ cond-true (ltb h c.head.channels) _ _ (lt-ltb h c.head.channels below));
       did = λ script samples marks sc s stands.
@@ -124,7 +125,7 @@ module _ (kind : ℕ) (k : Levels) {S : Type 0} (schedule : Meaning S) (h : ℕ)
     }
 
     -- No such entry.
-    pub finds_past : (i : ℕ) → port.count ≤ i → Finds kind k schedule h i c g entries (Err NoSuch)
+    finds_past : (i : ℕ) → port.count ≤ i → Finds kind k schedule h i c g entries (Err NoSuch)
     finds_past i past = record {
       answer = sym
           (cond-false (ltb (length entries) (entries_needed c)) _ _ (le-ltb (length entries) (entries_needed c) long)
@@ -136,7 +137,7 @@ module _ (kind : ℕ) (k : Levels) {S : Type 0} (schedule : Meaning S) (h : ℕ)
     }
 
     -- An entry.
-    pub finds_one : (i : ℕ) → i < port.count → Finds kind k schedule h i c g entries (Ok (get_or entries (port.start + i) nil_entry))
+    finds_one : (i : ℕ) → i < port.count → Finds kind k schedule h i c g entries (Ok (get_or entries (port.start + i) nil_entry))
     finds_one i less = record {
       answer = sym
           (cond-false (ltb (length entries) (entries_needed c)) _ _ (le-ltb (length entries) (entries_needed c) long)
@@ -147,3 +148,41 @@ module _ (kind : ℕ) (k : Levels) {S : Type 0} (schedule : Meaning S) (h : ℕ)
           let size = entries-counted kind k c script samples entries marks sc s stands h below laid held in
           sym (ap told_entry (entry-one k schedule h sc s g i (omega arith) (omega arith)) ∙ ap (λ (e : Entry). Ok e) (entry_read kind k c script samples entries marks sc s stands h below i less));
     }
+
+-- By the test that these calls share
+
+module _ (kind : ℕ) (k : Levels) {S : Type 0} (schedule : Meaning S) (h : ℕ) (c : Core) (g : S) (entries : List Entry) where
+  module _ (e : RunFault) (none : NoPort c.channels c.head.channels (length entries) h e) where
+    pub counts_missing : Counts kind k schedule h c g entries (Err e)
+    counts_missing = ⊎_elim
+        (λ (short : (length entries < entries_needed c) × (e ≡ NoState)).
+        subst (λ (f : RunFault). Counts kind k schedule h c g entries (Err f)) (sym short.1) (record {
+          answer = sym (cond-true (ltb (length entries) (entries_needed c)) _ _ (lt-ltb (length entries) (entries_needed c) short.0));
+          did = λ script samples marks sc s stands. let long = stands.long.entries in let less = short.0 in absurd (omega arith);
+        }))
+        (λ (past : (entries_needed c ≤ length entries) × (c.head.channels ≤ h) × (e ≡ NoSuch)).
+        subst (λ (f : RunFault). Counts kind k schedule h c g entries (Err f)) (sym past.2) (counts_none kind k schedule h c g entries past.0 past.1))
+        none
+
+    pub finds_missing : (i : ℕ) → Finds kind k schedule h i c g entries (Err e)
+    finds_missing i = ⊎_elim
+        (λ (short : (length entries < entries_needed c) × (e ≡ NoState)).
+        subst (λ (f : RunFault). Finds kind k schedule h i c g entries (Err f)) (sym short.1) (record {
+          answer = sym (cond-true (ltb (length entries) (entries_needed c)) _ _ (lt-ltb (length entries) (entries_needed c) short.0));
+          did = λ script samples marks sc s stands. let long = stands.long.entries in let less = short.0 in absurd (omega arith);
+        }))
+        (λ (past : (entries_needed c ≤ length entries) × (c.head.channels ≤ h) × (e ≡ NoSuch)).
+        subst (λ (f : RunFault). Finds kind k schedule h i c g entries (Err f)) (sym past.2) (finds_none kind k schedule h c g entries past.0 past.1 i))
+        none
+
+  module _ (p : Port) (found : PortIn c.channels c.head.channels (length entries) h p) (laid : Laid c.channels c.head.channels) (held : Held c.channels c.head.channels) where
+    pub counts_found : Counts kind k schedule h c g entries (Ok (record { entries = p.count; missed = p.missed }))
+    counts_found = subst (λ (q : Port). Counts kind k schedule h c g entries (Ok (record { entries = q.count; missed = q.missed }))) (sym found.is) (counts_one kind k schedule h c g entries found.enough laid held found.below)
+
+    pub finds_beyond : (i : ℕ) → p.count ≤ i → Finds kind k schedule h i c g entries (Err NoSuch)
+    finds_beyond i past = finds_past kind k schedule h c g entries found.enough laid held found.below i (subst (λ (q : Port). q.count ≤ i) found.is past)
+
+    pub finds_found : (i : ℕ) → i < p.count → Finds kind k schedule h i c g entries (Ok (get_or entries (p.start + i) nil_entry))
+    finds_found i less =
+        subst (λ (q : Port). Finds kind k schedule h i c g entries (Ok (get_or entries (q.start + i) nil_entry))) (sym found.is)
+        (finds_one kind k schedule h c g entries found.enough laid held found.below i (subst (λ (q : Port). i < q.count) found.is less))

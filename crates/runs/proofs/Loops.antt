@@ -1,15 +1,19 @@
--- The loops of the guard and of raising, a turn at a time.
-use Rattle.std.proofs.Common.{◌≡◌, ℕ, ◌+◌, List, get_or, set, sym, refl, ap, ◌∙◌, add-one}
+-- The loops over open blocks, a turn at a time.
+use Rattle.std.proofs.Common.{◌≡◌, ℕ, ◌+◌, ◌-◌, Bool, false, cond, eqb, List, get_or, refl, ap, ◌∙◌, add-one, arith, ne_eqb}
 use Rattle.lattice.specs.Levels.{Levels}
 use Rattle.survey.specs.declared.table.Step.{Step}
 use Rattle.runs.specs.declared.Mark.{Mark}
-use Rattle.runs.specs.declared.Cell.{Cell}
 use Rattle.runs.specs.declared.Place.{Place}
-use Rattle.runs.specs.declared.Core.{Core}
-use Rattle.runs.specs.Flat.{nil_mark, guard_one, guard_marks, guard_threads, first_mark, nil_place, nil_cell, raised, raised_cell, with_cells}
+use Rattle.runs.specs.Flat.{nil_mark, level_inside, guard_one, guard_marks, guard_threads, first_mark, nil_place}
 use Rattle.survey.specs.Table.{step_at_place}
 use lib.Bits.{bit_or}
-use Rattle.runs.specs.Statuses.{owned_marks, reserved_one, reserved_marks, held_one, against_first}
+use Rattle.runs.specs.Statuses.{locks_of, held_one, against_first}
+
+pub inside_more : (ms : List Mark) (b d : ℕ) → level_inside ms b (d + 1) ≡ (get_or ms (b + d) nil_mark).level
+inside_more ms b d =
+    let e : d + 1 - 1 ≡ d = omega arith in
+    let z : eqb (d + 1) 0 ≡ false = ne_eqb (d + 1) 0 (λ (q : d + 1 ≡ 0). omega arith) in
+    ap (λ (t : Bool). cond t 0 (get_or ms (b + (d + 1 - 1)) nil_mark).level) z ∙ ap (λ (n : ℕ). (get_or ms (b + n) nil_mark).level) e
 
 module _ (k : Levels) (table : List Step) (ms : List Mark) (x : ℕ) where
   pub guard_marks_none : (b acc : ℕ) → guard_marks k table ms x b 0 acc ≡ acc
@@ -28,37 +32,15 @@ module _ (k : Levels) (table : List Step) (ms : List Mark) (x : ℕ) where
   unfolding guard_threads
   guard_threads_more ps n = ap (guard_threads k table ms x ps) (add-one n)
 
-module _ (k : Levels) (mask l : ℕ) where
-  pub raised_none : (cs : List Cell) → raised k mask l cs 0 ≡ cs
-  unfolding raised
-  raised_none cs = refl
-
-  pub raised_more : (cs : List Cell) (n : ℕ) → raised k mask l cs (n + 1) ≡ set (raised k mask l cs n) n (raised_cell k mask l n (get_or (raised k mask l cs n) n nil_cell))
-  unfolding raised
-  raised_more cs n = ap (raised k mask l cs) (add-one n)
-
-  pub raise_next : (c s : Core) (n : ℕ) (v : Cell) → s ≡ with_cells c (raised k mask l c.cells n) → v ≡ raised_cell k mask l n (get_or s.cells n nil_cell) → with_cells s (set s.cells n v) ≡ with_cells c (raised k mask l c.cells (n + 1))
-  raise_next c s n v h e =
-      ap (λ (u : Cell). with_cells s (set s.cells n u)) e
-      ∙ ap (λ (x : Core). with_cells x (set x.cells n (raised_cell k mask l n (get_or x.cells n nil_cell)))) h
-      ∙ ap (with_cells c) (sym (raised_more c.cells n))
-
 module _ (table : List Step) (ms : List Mark) where
-  pub owned_none : (b : ℕ) → owned_marks table ms b 0 ≡ 0
-  unfolding owned_marks
-  owned_none b = refl
+  pub locks_none : (f : Step → ℕ → ℕ → ℕ) (b : ℕ) → locks_of table ms f b 0 ≡ 0
+  unfolding locks_of
+  locks_none f b = refl
 
-  pub owned_more : (b d : ℕ) → owned_marks table ms b (d + 1) ≡ bit_or (step_at_place table (get_or ms (b + d) nil_mark).opener).mask (owned_marks table ms b d)
-  unfolding owned_marks
-  owned_more b d = ap (owned_marks table ms b) (add-one d)
-
-  pub reserved_none : (b : ℕ) → reserved_marks table ms b 0 ≡ 0
-  unfolding reserved_marks
-  reserved_none b = refl
-
-  pub reserved_more : (b d : ℕ) → reserved_marks table ms b (d + 1) ≡ bit_or (reserved_one table ms b d) (reserved_marks table ms b d)
-  unfolding reserved_marks
-  reserved_more b d = ap (reserved_marks table ms b) (add-one d)
+  pub locks_more : (f : Step → ℕ → ℕ → ℕ) (b d : ℕ) → let mk = get_or ms (b + d) nil_mark in
+      locks_of table ms f b (d + 1) ≡ bit_or (f (step_at_place table mk.opener) (level_inside ms b d) mk.level) (locks_of table ms f b d)
+  unfolding locks_of
+  locks_more f b d = ap (locks_of table ms f b) (add-one d)
 
   pub against_none : (i : ℕ) (ps : List Place) → against_first table ms i ps 0 ≡ 0
   unfolding against_first

@@ -1,8 +1,11 @@
 -- A run as it is made stands for the beginning of its script.
-use Rattle.std.proofs.Common.{◌≡◌, ℕ, zero, suc, ◌+◌, ◌<◌, ◌≤◌, true, false, List, [], ◌∷◌, ◌++◌, map, length, get_or, take, drop, replicate, ℤ, pos, sym, refl, ap, ◌∙◌, subst, arith, length-take-le, get_or-take, take-suc}
+use Rattle.std.proofs.Common.{◌≡◌, ℕ, zero, suc, ◌+◌, ◌<◌, ◌≤◌, true, false, T, List, [], ◌∷◌, map, length, get_or, take, drop, replicate, ℤ, pos, sym, refl, ap, ◌∙◌, subst, arith, length-take-le, get_or-take}
 use lib.ListN
 use lib.ListN.{length-map, length-replicate}
-use Rattle.std.proofs.lemmas.List.{same_lists, get_or-map}
+use Rattle.std.proofs.lemmas.List.{same_lists, get_or-map, get_or-replicate}
+use Rattle.std.specs.List.{sum_by}
+use Rattle.std.proofs.lemmas.List.Sums.{sum_by-cons}
+use Rattle.model.proofs.Tests.{is_true}
 use Rattle.script.specs.declared.faults.RunFault.TheVariants.{NoState}
 use Rattle.lattice.specs.Levels.{Levels, Lawful}
 use Rattle.codec.specs.Shapes.{head_of as as_head}
@@ -20,10 +23,11 @@ use Rattle.model.proofs.Places.Fit.{places_fit}
 use Rattle.runs.specs.declared.Mark.{Mark}
 use Rattle.runs.specs.declared.Entry.{Entry}
 use Rattle.runs.specs.declared.Port.{Port}
+use Rattle.runs.specs.declared.Cell.{Cell}
 use Rattle.runs.specs.declared.Core.{Core}
 use Rattle.runs.specs.declared.declaring.Declared.{Declared}
 use Rattle.runs.specs.Flat.{cell_of, channel_of, entry_of, first_mark, nil_cell, nil_entry, nil_mark, nil_place, nil_port, track_of}
-use Rattle.runs.specs.Kept.{entries_needed, room, samples_needed}
+use Rattle.runs.specs.Kept.{CodedLevels, entries_needed, room, samples_needed}
 use Rattle.runs.specs.Views.{Declares, openers, size_of_port}
 use Rattle.runs.specs.Memory.{Long, StandsFor, account, mark_levels, memory}
 use Rattle.runs.specs.Declaring.{DeclaresAs, Fresh, FreshPorts, InSlab}
@@ -32,24 +36,17 @@ use Rattle.runs.specs.Finding.{is_long_enough}
 use Rattle.runs.specs.Calls.{Made, NotMade}
 use Rattle.runs.proofs.Begun.{begins_first}
 use Rattle.runs.proofs.Found.{long_from, long_to}
-use Rattle.runs.proofs.Stored.{Bounds, bounded, room_more, room_none}
+use Rattle.runs.proofs.Stored.{Bounds, bounded, room_is}
 use Rattle.runs.proofs.Viewing.{Keeps, levelled}
 
 -- What ports hold together
 
-total_push : (xs : List ℕ) (x : ℕ) → total (xs ++ (x ∷ [])) ≡ total xs + x
-total_push [] x = omega arith
-total_push (y ∷ xs) x = let later = total_push xs x in omega arith
-
-map_push : (f : Port → ℕ) (ps : List Port) (p : Port) → map f (ps ++ (p ∷ [])) ≡ map f ps ++ (f p ∷ [])
-map_push f [] p = refl
-map_push f (q ∷ ps) p = ap (λ (xs : List ℕ). f q ∷ xs) (map_push f ps p)
+total_by : (ps : List Port) → sum_by (λ (p : Port). p.size) ps ≡ total (map size_of_port ps)
+total_by [] = refl
+total_by (p ∷ ps) = sum_by-cons (λ (q : Port). q.size) p ps ∙ ap (λ (n : ℕ). p.size + n) (total_by ps)
 
 room_total : (ps : List Port) (n : ℕ) → n ≤ length ps → room ps n ≡ total (map size_of_port (take n ps))
-room_total ps zero le = room_none ps
-room_total ps (suc n) le =
-    room_more ps n ∙ ap (λ (x : ℕ). x + (get_or ps n nil_port).size) (room_total ps n (omega arith))
-    ∙ sym (ap (λ (qs : List Port). total (map size_of_port qs)) (take-suc ps n nil_port (omega arith)) ∙ ap total (map_push size_of_port (take n ps) (get_or ps n nil_port)) ∙ total_push (map size_of_port (take n ps)) (get_or ps n nil_port).size)
+room_total ps n le = room_is ps n le ∙ total_by (take n ps)
 
 -- Lists of one thing
 
@@ -109,10 +106,6 @@ module _ (kind : ℕ) (k : Levels) (lawful : Lawful k) (slab : List ℕ) (d : De
         track_sizes = own-tracks.sizes;
         channel_levels = own-channels.levels;
         channel_sizes = own-channels.sizes;
-        few = bounds.threads;
-        few_variables = bounds.variables;
-        few_tracks = bounds.tracks;
-        few_channels = bounds.channels;
       }
 
       -- Thread i at its beginning.
@@ -163,6 +156,11 @@ module _ (kind : ℕ) (k : Levels) (lawful : Lawful k) (slab : List ℕ) (d : De
             is = λ i. record { cells = cells i; threads = (begin sc).threads; tracks = tracks i; channels = channels i; turns = sym b.turns i };
           }
 
+    -- Every level is the open one.
+    pub begins_coded : CodedLevels k c
+    begins_coded x lt =
+        is_true _ (subst (λ (l : ℕ). T (k.has l)) (sym (ap (λ (cs : List Cell). (get_or cs x nil_cell).level) b.cells ∙ ap (λ z. z.level) (get_or-replicate 64 x nil_cell nil_cell (let few = c.few.1 in omega arith)))) lawful.open_has)
+
     -- What every run keeps.
     pub begins_keeps : Keeps c
     begins_keeps =
@@ -172,7 +170,6 @@ module _ (kind : ℕ) (k : Levels) (lawful : Lawful k) (slab : List ℕ) (d : De
         let tracks = own-tracks sc held in
         let channels = own-channels sc held in
         record {
-          few = (bounds.threads, bounds.variables, bounds.tracks, bounds.channels);
           small = (omega (arith, samples-in sc held, held.valid.track_room), omega (arith, entries-in sc held, held.valid.channel_room), omega arith);
           tracks = tracks.laid;
           fed = λ h lt. omega (arith, (tracks.empty h lt).0);

@@ -1,9 +1,10 @@
 -- The marks of a thread: what a write to one leaves, one block more and one block fewer.
-use Rattle.std.proofs.Common.{◌≡◌, ℕ, zero, suc, ◌+◌, ◌-◌, ◌<◌, Bool, false, cond, eqb, List, [], ◌∷◌, length, get_or, set, sym, refl, ap, ◌∙◌, subst, add-one, arith, get_or-set_other, get_or-set_same, ne_eqb}
+use Rattle.std.proofs.Common.{◌≡◌, ℕ, zero, suc, ◌+◌, ◌-◌, ◌<◌, List, [], ◌∷◌, length, get_or, set, sym, refl, ap, ◌∙◌, subst, add-one, arith, get_or-set_other, get_or-set_same}
 use Rattle.model.specs.Threads.{Open, context}
 use Rattle.runs.specs.declared.Mark.{Mark}
 use Rattle.runs.specs.Flat.{nil_mark, level_inside}
 use Rattle.runs.specs.Views.{openers, Leveled}
+use Rattle.runs.proofs.Loops.{inside_more}
 
 pub leveled_length : (ms : List Mark) (b d : ℕ) (os : List Open) → Leveled ms b d os → length os ≡ d
 leveled_length ms b zero [] h = refl
@@ -16,10 +17,7 @@ pub level_inside_is : (ms : List Mark) (b d : ℕ) (os : List Open) → Leveled 
 level_inside_is ms b zero [] h = refl
 level_inside_is ms b zero (o ∷ os) h = absurd h
 level_inside_is ms b (suc d) [] h = absurd h
-level_inside_is ms b (suc d) (o ∷ os) h =
-    let e : suc d - 1 ≡ d = omega arith in
-    let z : eqb (suc d) 0 ≡ false = ne_eqb (suc d) 0 (λ (q : suc d ≡ 0). omega arith) in
-    ap (λ (t : Bool). cond t 0 (get_or ms (b + (suc d - 1)) nil_mark).level) z ∙ ap (λ (n : ℕ). (get_or ms (b + n) nil_mark).level) e ∙ h.0
+level_inside_is ms b (suc d) (o ∷ os) h = ap (level_inside ms b) (sym (add-one d)) ∙ inside_more ms b d ∙ h.0
 
 module _ (ms ns : List Mark) (b : ℕ) where
   abbrev pub Same : ℕ → Type 0

@@ -1,5 +1,6 @@
 -- What the table of steps tells of the threads is what the script's frames tell.
 use Rattle.std.proofs.Common.{◌≡◌, ℕ, zero, suc, ◌+◌, ◌-◌, ◌<◌, Bool, true, false, cond, not, ◌&&◌, T, eqb, ◌≢◌, List, length, get_or, sym, refl, ap, ◌∙◌, subst, ⊎_elim, add-one, arith, ne_eqb}
+use Rattle.std.proofs.Math.Bool.{and-true, and_comm}
 use Rattle.std.proofs.lemmas.Bool.{cases_eq}
 use Rattle.lattice.specs.Levels.{Levels}
 use Rattle.codec.specs.Frames.{Head, Frame}
@@ -24,26 +25,16 @@ use Rattle.runs.specs.Flat.{nil_mark, nil_place, first_mark, level_inside}
 use Rattle.runs.specs.Views.{openers}
 use Rattle.runs.specs.Memory.{mark_levels, pace_of, account, end_fits}
 use Rattle.runs.specs.Turns.{all_first}
-use Rattle.runs.specs.Fitted.{if_kind, way_end_kind, thread_end_kind, level_suits, mark_suits, block_suits, pace_suits, end_right, level_coded, OfScript, thread_right, threads_right, TellsFit, FitsFrames}
+use Rattle.runs.specs.Fitted.{if_kind, way_end_kind, thread_end_kind, level_suits, mark_suits, block_suits, pace_suits, end_right, OfScript, thread_right, threads_right, TellsFit, FitsFrames}
 use Rattle.runs.proofs.Advancing.{all_more}
 
 -- Tests in another order
-
-and_swap : (a b : Bool) → (a && b) ≡ (b && a)
-and_swap true true = refl
-and_swap true false = refl
-and_swap false true = refl
-and_swap false false = refl
 
 pairwise : (a b c d : Bool) → ((a && b) && (c && d)) ≡ ((a && c) && (b && d))
 pairwise true true c d = refl
 pairwise true false true d = refl
 pairwise true false false d = refl
 pairwise false b c d = refl
-
-and_assoc : (a b c : Bool) → ((a && b) && c) ≡ (a && (b && c))
-and_assoc true b c = refl
-and_assoc false b c = refl
 
 -- The tests of one thread: two counts, its blocks and levels, its pace and its end.
 six : (a b s l p e : Bool) → (((a && b) && (s && l)) && (p && e)) ≡ (((a && (b && s)) && (l && p)) && e)
@@ -117,11 +108,7 @@ thread_end_of (last m) = refl
 -- A thread's pace: whether it may idle here, and whether it is at its end.
 pace_of_frame : (f : Frame) (p : Pace) → pace_suits p (kind_of f) ≡ (pace_fits f (pace_of p) && end_fits f p)
 pace_of_frame f Running = ap not (thread_end_of f)
-pace_of_frame f (Idling n) = way_end_of f ∙ sym (and_true (is_way_end f))
-  where
-    and_true : (b : Bool) → (b && true) ≡ b
-    and_true true = refl
-    and_true false = refl
+pace_of_frame f (Idling n) = way_end_of f ∙ sym (and-true (is_way_end f))
 pace_of_frame f Finished = thread_end_of f
 
 -- Open blocks
@@ -167,7 +154,7 @@ module _ (k : Levels) (fs : List Frame) (table : List Step) (kinds : (p : ℕ) �
       level_is mk.opener mk.level (level_inside ms b d) ∙ ap (level_fits k (frame_at fs mk.opener) mk.level) (innermost_is ms b d)
       in
       (λ i. blocks_are xs ms b d i && (met && here i))
-      ∙ and_swap (same_places (stacked xs d) (openers ms b d) && levels_fit k fs (openers ms b d) (mark_levels ms b d)) (met && level)
+      ∙ and_comm (same_places (stacked xs d) (openers ms b d) && levels_fit k fs (openers ms b d) (mark_levels ms b d)) (met && level)
       ∙ pairwise met level (same_places (stacked xs d) (openers ms b d)) (levels_fit k fs (openers ms b d) (mark_levels ms b d))
 
   -- One thread
@@ -215,6 +202,14 @@ module _ (k : Levels) (fs : List Frame) (table : List Step) (kinds : (p : ℕ) �
     not-as-deep : r.depth ≢ here-at.depth → false ≡ thread_right k c ms i fs
     not-as-deep ne = sym (never_same own others levels pace end same (other_depth r.openers ms (first_mark i) r.depth here-at.depth ne)) ∙ thread-is
 
+-- One by one, or first where they stand and then their ends.
+pub threads_are : (k : Levels) (c : Core) (ms : List Mark) (fs : List Frame) (n : ℕ) → all_first (λ i. thread_right k c ms i fs) n ≡ threads_right k c ms n fs
+unfolding all_fit all_first
+threads_are k c ms fs zero = refl
+threads_are k c ms fs (suc n) =
+    ap (λ (b : Bool). b && thread_right k c ms n fs) (threads_are k c ms fs n)
+    ∙ pairwise (all_fit k fs (account c ms) n) (all_first (end_right fs c) n) (thread_fits k fs n (account c ms n)) (end_right fs c n)
+
 module _ (kind : ℕ) (k : Levels) (table : List Step) where
   kinds_are : (sc : Script) (h : Head) (code : List ℕ) → Tabled h code table (script_frames sc) → (p : ℕ) → (step_at_place table p).kind ≡ kind_of (frame_at (script_frames sc) p)
   kinds_are sc h code t p = reads_kind h code p (step_at_place table p) (script_frames sc) p (t.here p)
@@ -224,31 +219,11 @@ module _ (kind : ℕ) (k : Levels) (table : List Step) where
     pub thread_told : (i : ℕ) (r : Around) (b p : Bool) (kd : Kind) → let here = get_or c.threads i nil_place in
         Walks table here.at r → r.depth ≡ here.depth → b ≡ all_first (block_suits k table r.openers ms (first_mark i)) r.depth → kd ≡ (step_at_place table here.at).kind → p ≡ pace_suits here.pace kd →
         OfScript kind k table (thread_right k c ms i) (((eqb r.begun (i + 1) && eqb r.ended i) && b) && p)
-    thread_told i r b p kd w d eb ek ep sc h code v t = same-deep k (script_frames sc) table (kinds_are sc h code t) c ms i r (w kind k sc h code v t) b p kd d eb ek ep
+    thread_told i r b p kd w d eb ek ep = record { told = λ sc h code v t. same-deep k (script_frames sc) table (kinds_are sc h code t) c ms i r (w kind k sc h code v t) b p kd d eb ek ep }
 
     -- Where it met another number.
     pub thread_refused : (i : ℕ) (r : Around) → Walks table (get_or c.threads i nil_place).at r → r.depth ≢ (get_or c.threads i nil_place).depth → OfScript kind k table (thread_right k c ms i) false
-    thread_refused i r w ne sc h code v t = not-as-deep k (script_frames sc) table (kinds_are sc h code t) c ms i r (w kind k sc h code v t) ne
-
-    -- All threads
-
-    pub threads_none : OfScript kind k table (threads_right k c ms 0) true
-    unfolding all_fit all_first
-    threads_none sc h code v t = refl
-
-    pub threads_more : (n : ℕ) (a b : Bool) → OfScript kind k table (threads_right k c ms n) a → OfScript kind k table (thread_right k c ms n) b → OfScript kind k table (threads_right k c ms (n + 1)) (a && b)
-    unfolding all_fit all_first
-    threads_more n a b ea eb sc h code v t =
-        let fs = script_frames sc in
-        (λ j. ea sc h code v t j && eb sc h code v t j)
-        ∙ pairwise (all_fit k fs (account c ms) n) (all_first (end_right fs c) n) (thread_fits k fs n (account c ms n)) (end_right fs c n)
-        ∙ ap (λ (m : ℕ). threads_right k c ms m fs) (sym (add-one n))
-
-    pub all_told : (a b : Bool) → OfScript kind k table (threads_right k c ms c.head.threads) a → b ≡ all_first (level_coded k c) c.head.variables → TellsFit kind k table c ms (a && b)
-    all_told a b ea eb sc h code v t =
-        let fs = script_frames sc in
-        (λ j. ea sc h code v t j && eb j)
-        ∙ and_assoc (all_fit k fs (account c ms) c.head.threads) (all_first (end_right fs c) c.head.threads) (all_first (level_coded k c) c.head.variables)
+    thread_refused i r w ne = record { told = λ sc h code v t. not-as-deep k (script_frames sc) table (kinds_are sc h code t) c ms i r (w kind k sc h code v t) ne }
 
 -- What an answer means
 
@@ -275,14 +250,8 @@ module _ (kind : ℕ) (k : Levels) (table : List Step) (c : Core) (ms : List Mar
       let fs = script_frames sc in
       let accounts = all_fit k fs (account c ms) c.head.threads in
       let ends = all_first (end_right fs c) c.head.threads in
-      let levels = all_first (level_coded k c) c.head.variables in
-      let all : T (accounts && (ends && levels)) = subst T (sym e ∙ tells sc h code valid tabled) tt in
-      let rest : T (ends && levels) = and_right accounts (ends && levels) all in
-      record {
-        accounts = and_left accounts (ends && levels) all;
-        ends = each_first (end_right fs c) c.head.threads (and_left ends levels rest);
-        coded = each_first (level_coded k c) c.head.variables (and_right ends levels rest);
-      }
+      let all : T (accounts && ends) = subst T (sym e ∙ tells.told sc h code valid tabled) tt in
+      record { accounts = and_left accounts ends all; ends = each_first (end_right fs c) c.head.threads (and_right accounts ends all) }
 
   -- Where memory fits the script, the answer is true.
   pub then_fits : FitsFrames k (script_frames sc) c ms → r ≡ true
@@ -290,6 +259,4 @@ module _ (kind : ℕ) (k : Levels) (table : List Step) (c : Core) (ms : List Mar
       let fs = script_frames sc in
       let accounts = all_fit k fs (account c ms) c.head.threads in
       let ends = all_first (end_right fs c) c.head.threads in
-      let levels = all_first (level_coded k c) c.head.variables in
-      let rest : T (ends && levels) = both ends levels (first_each (end_right fs c) c.head.threads f.ends) (first_each (level_coded k c) c.head.variables f.coded) in
-      tells sc h code valid tabled ∙ is_true (accounts && (ends && levels)) (both accounts (ends && levels) f.accounts rest)
+      tells.told sc h code valid tabled ∙ is_true (accounts && ends) (both accounts ends f.accounts (first_each (end_right fs c) c.head.threads f.ends))

@@ -116,14 +116,22 @@ module _ (n : ℕ) (qs : List Port) (h : ℕ) (e : Entry) (es : List Entry) (mos
       (λ (ne : j ≢ h). subst (P j) (sym (get_or-set_other qs h j (added_port port) nil_port ne)) (there j lt ne))
       (cases_eq j h)
 
-  pub ports_added : (c : Core) → c.head.channels ≡ n → c.channels ≡ qs → length qs ≡ 8 → Ports (suc most) (record { head = record { version = c.head.version; kind = c.head.kind; threads = c.head.threads; variables = c.head.variables; tracks = c.head.tracks; channels = n; locks = c.head.locks }; cells = c.cells; threads = c.threads; tracks = c.tracks; channels = qs; turns = c.turns }) (set qs h (added_port port)) (added_entries port e es)
-  ports_added c a b long = record {
-    long = length-set qs h (added_port port) ∙ long;
-    levels = same_field level_of_port refl;
-    sizes = same_field size_of_port refl;
-    parts = at_or_other (λ j q. Part q (suc most) (added_entries port e es)) (part_added port e es most (parts h below)) (λ j lt ne. part_kept port e es most (parts h below) (get_or qs j nil_port) (parts j lt));
-    apart = λ i j li lj ne.
-        at_or_other (λ x q. x ≢ j → Apart q (get_or (set qs h (added_port port)) j nil_port))
-        (λ nj. at_or_other (λ y r. h ≢ y → Apart (added_port port) r) (λ z. absurd (z refl)) (λ y ly ny z. apart h y below ly z) j lj nj)
-        (λ x lx nx nj. at_or_other (λ y r. x ≢ y → Apart (get_or qs x nil_port) r) (λ z. apart x h lx below z) (λ y ly ny z. apart x y lx ly z) j lj nj) i li ne;
-  }
+-- The channels then.
+pub ports_added : (c : Core) (h : ℕ) (e : Entry) (es : List Entry) (most : ℕ) → (few : c.head.channels ≤ length c.channels) (below : h < c.head.channels)
+    (parts : (j : ℕ) → j < c.head.channels → Part (get_or c.channels j nil_port) most es)
+    (apart : (i j : ℕ) → i < c.head.channels → j < c.head.channels → i ≢ j → Apart (get_or c.channels i nil_port) (get_or c.channels j nil_port))
+    → length c.channels ≡ 8 → let q = get_or c.channels h nil_port in Ports (suc most) c (set c.channels h (added_port q)) (added_entries q e es)
+ports_added c h e es most few below parts apart long =
+    let n = c.head.channels in
+    let qs = c.channels in
+    let q = get_or qs h nil_port in
+    record {
+      long = length-set qs h (added_port q) ∙ long;
+      levels = same_field n qs h e es most few below parts apart level_of_port refl;
+      sizes = same_field n qs h e es most few below parts apart size_of_port refl;
+      parts = at_or_other n qs h e es most few below parts apart (λ j r. Part r (suc most) (added_entries q e es)) (part_added q e es most (parts h below)) (λ j lt ne. part_kept q e es most (parts h below) (get_or qs j nil_port) (parts j lt));
+      apart = λ i j li lj ne.
+          at_or_other n qs h e es most few below parts apart (λ x r. x ≢ j → Apart r (get_or (set qs h (added_port q)) j nil_port))
+          (λ nj. at_or_other n qs h e es most few below parts apart (λ y r. h ≢ y → Apart (added_port q) r) (λ z. absurd (z refl)) (λ y ly ny z. apart h y below ly z) j lj nj)
+          (λ x lx nx nj. at_or_other n qs h e es most few below parts apart (λ y r. x ≢ y → Apart (get_or qs x nil_port) r) (λ z. apart x h lx below z) (λ y ly ny z. apart x y lx ly z) j lj nj) i li ne;
+    }

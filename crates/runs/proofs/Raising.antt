@@ -1,13 +1,14 @@
 -- Cells as the model has them: one set, and each of the first n raised.
-use Rattle.std.proofs.Common.{◌≡◌, ℕ, zero, suc, ◌+◌, ◌<◌, ◌≤◌, Bool, true, false, cond, List, [], ◌∷◌, ◌++◌, map, length, get_or, take, set, sym, refl, ap, ◌∙◌, arith, length-set, length-take, get_or-set_other, take-suc, take-suc-set}
+use Rattle.std.proofs.Common.{◌≡◌, ℕ, zero, suc, ◌+◌, ◌<◌, ◌≤◌, Bool, true, false, cond, List, [], ◌∷◌, ◌++◌, map, length, get_or, take, set, sym, refl, ap, ◌∙◌, add-one, arith, length-set, length-take, get_or-set_other, take-suc, take-suc-set}
 use lib.Seq.{map-set}
 use Rattle.std.proofs.lemmas.List.{map_push, length-map}
 use Rattle.lattice.specs.Levels.{Levels}
 use Rattle.model.specs.Machine.{raise}
 use Rattle.model.specs.Values.{Cell as ModelCell}
 use Rattle.runs.specs.declared.Cell.{Cell}
+use Rattle.runs.specs.declared.Core.{Core}
 use Rattle.survey.specs.Stretches.{has_bit}
-use Rattle.runs.specs.Flat.{nil_cell, cell_of, raised, raised_cell}
+use Rattle.runs.specs.Flat.{nil_cell, cell_of, raised, raised_cell, with_cells}
 
 pub take_set_in : {X : Type 0} (n : ℕ) (xs : List X) (i : ℕ) (y : X) → take n (set xs i y) ≡ set (take n xs) i y
 take_set_in zero xs i y = refl
@@ -19,6 +20,21 @@ pub cells_set : (n : ℕ) (cs : List Cell) (x : ℕ) (v : Cell) → map cell_of 
 cells_set n cs x v = ap (map cell_of) (take_set_in n cs x v) ∙ map-set cell_of (take n cs) x v
 
 module _ (k : Levels) (mask l : ℕ) where
+  pub raised_none : (cs : List Cell) → raised k mask l cs 0 ≡ cs
+  unfolding raised
+  raised_none cs = refl
+
+  pub raised_more : (cs : List Cell) (n : ℕ) → raised k mask l cs (n + 1) ≡ set (raised k mask l cs n) n (raised_cell k mask l n (get_or (raised k mask l cs n) n nil_cell))
+  unfolding raised
+  raised_more cs n = ap (raised k mask l cs) (add-one n)
+
+  -- One cell more, in a run.
+  pub raise_next : (c s : Core) (n : ℕ) (v : Cell) → s ≡ with_cells c (raised k mask l c.cells n) → v ≡ raised_cell k mask l n (get_or s.cells n nil_cell) → with_cells s (set s.cells n v) ≡ with_cells c (raised k mask l c.cells (n + 1))
+  raise_next c s n v h e =
+      ap (λ (u : Cell). with_cells s (set s.cells n u)) e
+      ∙ ap (λ (x : Core). with_cells x (set x.cells n (raised_cell k mask l n (get_or x.cells n nil_cell)))) h
+      ∙ ap (with_cells c) (sym (raised_more c.cells n))
+
   pub raised_length : (cs : List Cell) (n : ℕ) → length (raised k mask l cs n) ≡ length cs
   unfolding raised
   raised_length cs zero = refl

@@ -1,7 +1,7 @@
 -- The status that is worked out from places and marks is the model's.
-use Rattle.std.proofs.Common.{◌≡◌, ℕ, zero, suc, ◌<◌, ◌≤◌, Bool, true, false, cond, not, ◌&&◌, ◌||◌, eqb, ◌≢◌, List, [], ◌∷◌, ◌++◌, length, get_or, take, ℤ, sym, refl, ap, ◌∙◌, ⊎_elim, arith, length-take, take_all, take-suc, eq-eqb, ne_eqb}
-use lib.Bits.{bit_or, or_comm, or_zero_l}
-use Rattle.std.proofs.lemmas.Bool.{cases_eq}
+use Rattle.std.proofs.Common.{◌≡◌, ℕ, zero, suc, ◌<◌, ◌≤◌, Bool, true, false, cond, not, ◌&&◌, ◌||◌, eqb, List, [], ◌∷◌, ◌++◌, length, get_or, take, ℤ, sym, refl, ap, ◌∙◌, arith, length-take, take_all, take-suc, eq-eqb, ne_eqb}
+use lib.Bits.{bit_or, or_zero_l, or_zero_r}
+use Rattle.std.proofs.Math.Dec.{eqb-suc-suc}
 use Rattle.lattice.specs.Levels.{Levels}
 use Rattle.model.specs.Levels.{is_open}
 use Rattle.script.specs.Code.{Code, Script}
@@ -23,23 +23,13 @@ use Rattle.runs.specs.declared.Pace.{Pace}
 use Rattle.runs.specs.declared.Place.{Place}
 use Rattle.runs.specs.declared.Entry.{Entry}
 use Rattle.runs.specs.declared.Core.{Core}
-use Rattle.survey.specs.Table.{step_at_place, Tabled}
+use Rattle.survey.specs.Table.{step_at_place}
 use Rattle.runs.specs.Flat.{nil_place, first_mark, pace_at, head_of_core, state_of}
-use Rattle.runs.specs.Statuses.{owned_marks, reserved_marks, against_first, status_by, status_now}
-use Rattle.runs.specs.Views.{openers, Leveled, ThreadView, Views}
-use Rattle.model.specs.Fitting.{behind_thread}
+use Rattle.runs.specs.Statuses.{locks_of, owned_marks, reserved_marks, against_first, status_by, status_now}
+use Rattle.runs.specs.Views.{openers, Leveled, TabledForTurns, ThreadView, Views}
 use Rattle.runs.proofs.Marks.{level_inside_is}
 use Rattle.runs.proofs.Guards.{reads}
 use Rattle.runs.proofs.Stepping.{value_is, level_is}
-
-or_zero_r : (a : ℕ) → bit_or a 0 ≡ a
-or_zero_r a = or_comm a 0 ∙ or_zero_l a
-
-eqb_suc : (a b : ℕ) → eqb (suc a) (suc b) ≡ eqb a b
-eqb_suc a b = ⊎_elim
-    (λ (e : a ≡ b). eq-eqb (suc a) (suc b) (ap suc e) ∙ sym (eq-eqb a b e))
-    (λ (ne : a ≢ b). ne_eqb (suc a) (suc b) (λ q. ne (omega arith)) ∙ sym (ne_eqb a b ne))
-    (cases_eq a b)
 
 -- What a thread holds against thread i, where `own` says whether it is that thread.
 abbrev part : Bool → Thread → ℕ
@@ -56,14 +46,14 @@ against_push zero (u ∷ ts) t own e =
     ap (bit_or (reserved u.inside)) (held_push ts t) ∙ sym (or_assoc (reserved u.inside) (held_by ts) (part false t))
     ∙ sym (ap (λ (b : Bool). bit_or (bit_or (reserved u.inside) (held_by ts)) (part b t)) (e ∙ ne_eqb (suc (length ts)) 0 (λ (q : suc (length ts) ≡ 0). omega arith)))
 against_push (suc i) (u ∷ ts) t own e =
-    ap (bit_or (part false u)) (against_push i ts t own (e ∙ eqb_suc (length ts) i)) ∙ sym (or_assoc (part false u) (against i ts) (part own t))
+    ap (bit_or (part false u)) (against_push i ts t own (e ∙ eqb-suc-suc (length ts) i)) ∙ sym (or_assoc (part false u) (against i ts) (part own t))
 
-module _ (h : Head) (code : List ℕ) (table : List Step) (fs : List Frame) (tabled : Tabled h code table fs) (ms : List Mark) where
+module _ (h : Head) (code : List ℕ) (table : List Step) (fs : List Frame) (tabled : TabledForTurns h code table fs) (ms : List Mark) where
   or_none : (a b : ℕ) → a ≡ 0 → bit_or a b ≡ b
   or_none a b e = ap (λ (x : ℕ). bit_or x b) e ∙ or_zero_l b
 
   pub owned_is : (r : List Frame) (b d : ℕ) (os : List Open) → Leveled ms b d os → Opened fs r (openers ms b d) os → owned_marks table ms b d ≡ owned os
-  unfolding owned_marks
+  unfolding locks_of
   owned_is r b zero [] l o = refl
   owned_is r b zero (q ∷ os) l o = absurd l
   owned_is r b (suc d) [] l o = absurd l
@@ -76,7 +66,7 @@ module _ (h : Head) (code : List ℕ) (table : List Step) (fs : List Frame) (tab
   no_need false a e = refl
 
   pub reserved_is : (r : List Frame) (b d : ℕ) (os : List Open) → Leveled ms b d os → Opened fs r (openers ms b d) os → reserved_marks table ms b d ≡ reserved os
-  unfolding reserved_marks
+  unfolding locks_of
   reserved_is r b zero [] l o = refl
   reserved_is r b zero (q ∷ os) l o = absurd l
   reserved_is r b (suc d) [] l o = absurd l
@@ -102,7 +92,7 @@ module _ (h : Head) (code : List ℕ) (table : List Step) (fs : List Frame) (tab
   pub against_is : (after : ℕ → List Frame) (i : ℕ) (ps : List Place) (ts : List Thread) → ((j : ℕ) → j < length ts → ThreadView h fs (after j) table ms j (get_or ps j nil_place) (get_or ts j ended)) → against_first table ms i ps (length ts) ≡ against i ts
   against_is after i ps ts all = against_to after i ps ts all (length ts) (omega arith) ∙ ap (against i) (take_all (length ts) ts (omega arith))
 
-module _ (most : ℕ) (k : Levels) (sc : Script) (table : List Step) (code : List ℕ) (ss : List ℤ) (c : Core) (ms : List Mark) (es : List Entry) (ts : List Thread) (v : Views most sc table code c ms es ts) (i : ℕ) (within : i < c.head.threads) where
+module _ (most : ℕ) (k : Levels) (sc : Script) (after : ℕ → List Frame) (table : List Step) (code : List ℕ) (ss : List ℤ) (c : Core) (ms : List Mark) (es : List Entry) (ts : List Thread) (v : Views most sc after table code c ms es ts) (i : ℕ) (within : i < c.head.threads) where
   abbrev at_now : Place
   at_now = get_or c.threads i nil_place
 
@@ -113,7 +103,7 @@ module _ (most : ℕ) (k : Levels) (sc : Script) (table : List Step) (code : Lis
   state_now = state_of c ss es ts
 
   abbrev View : Thread → Type 0
-  View t = ThreadView (head_of_core c) (script_frames sc) (behind_thread sc i) table ms i at_now t
+  View t = ThreadView (head_of_core c) (script_frames sc) (after i) table ms i at_now t
 
   abbrev Says : Pace → Kind → ModelStatus → Type 0
   Says q kd r = status_by k table code ss i q kd c ms at_now step_now ≡ r
@@ -124,7 +114,7 @@ module _ (most : ℕ) (k : Levels) (sc : Script) (table : List Step) (code : Lis
   stands_against : against_first table ms i c.threads c.head.threads ≡ against i ts
   stands_against =
       ap (against_first table ms i c.threads) (sym v.count)
-      ∙ against_is (head_of_core c) code table (script_frames sc) v.tabled ms (behind_thread sc) i c.threads ts (λ j lt. v.threads j (omega (arith, v.count)))
+      ∙ against_is (head_of_core c) code table (script_frames sc) v.tabled ms after i c.threads ts (λ j lt. v.threads j (omega (arith, v.count)))
 
   status_case : (cd : Code) (pc : ModelPace) (os : List Open) → View (record { code = cd; pace = pc; inside = os }) → Says at_now.pace step_now.kind (status_at k sc state_now i cd pc os)
   status_case cd (idling n) os tv = ap (λ (q : Pace). status_by k table code ss i q step_now.kind c ms at_now step_now) tv.paced
@@ -141,18 +131,18 @@ module _ (most : ℕ) (k : Levels) (sc : Script) (table : List Step) (code : Lis
       let r = reads (head_of_core c) code table (script_frames sc) v.tabled at_now.at _ here in
       let way = v.tabled.ways at_now.at e a b cd _ here in
       let inner = level_inside_is ms (first_mark i) at_now.depth os tv.leveled in
-      let level = level_is most k sc table code ss c ms es ts v _ e r.2.ops in
+      let level = level_is most k sc after table code ss c ms es ts v _ e r.2.ops in
       at_kind If _ tv.paced r.0
       (λ j. chosen_status (not (way.fixed j) && not (is_open (k.join (inner j) (level j)))) ((is_open (inner j) && not (is_open (k.join (inner j) (level j)))) && clash (way.needed j) (stands_against j)))
   status_case (loop e b cd) running os tv =
       let r = reads (head_of_core c) code table (script_frames sc) v.tabled at_now.at _ tv.stands.stands.here in
-      let level = level_is most k sc table code ss c ms es ts v _ e r.2.ops in
+      let level = level_is most k sc after table code ss c ms es ts v _ e r.2.ops in
       at_kind While _ tv.paced r.0 (λ j. chosen_status (not (is_open (level j))) false)
   status_case (lock x e b cd) running os tv =
       let r = reads (head_of_core c) code table (script_frames sc) v.tabled at_now.at _ tv.stands.stands.here in
       let inner = level_inside_is ms (first_mark i) at_now.depth os tv.leveled in
-      let level = level_is most k sc table code ss c ms es ts v _ e r.2.ops in
-      let value = value_is most k sc table code ss c ms es ts v _ e r.2.ops in
+      let level = level_is most k sc after table code ss c ms es ts v _ e r.2.ops in
+      let value = value_is most k sc after table code ss c ms es ts v _ e r.2.ops in
       at_kind With _ tv.paced r.0 (λ j. chosen_status (not (is_open (level j))) (is_open (inner j) && (is_zero (value j) || clash (r.1 j) (stands_against j))))
 
   pub status_is : status_now k table code ss i c ms ≡ status k sc state_now i

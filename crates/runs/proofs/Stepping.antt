@@ -16,7 +16,6 @@ use Rattle.codec.specs.Frames.{Frame}
 use Rattle.codec.specs.Frames.Frame.{if, else, end_if, while, end_while}
 use Rattle.script.specs.Trees.{flatten, script_frames, Valid}
 use Rattle.model.specs.Places.{Stands, Opened, flatten_inside, ValidInside}
-use Rattle.model.specs.Fitting.{behind_thread}
 use Rattle.model.proofs.Places.Skipping.{drop_next, past_lands}
 use Rattle.survey.specs.declared.table.Kind.{Kind}
 use Rattle.survey.specs.declared.table.Kind.TheVariants.{End, Skip, Assign, Put, If, Else, EndIf, While, EndWhile, With, EndWith}
@@ -29,6 +28,7 @@ use Rattle.runs.specs.declared.Place.{Place}
 use Rattle.runs.specs.declared.Entry.{Entry}
 use Rattle.runs.specs.declared.Port.{Port}
 use Rattle.runs.specs.declared.Core.{Core}
+use Rattle.runs.specs.Headers.{Few}
 use Rattle.runs.specs.Flat.{nil_mark, nil_place, first_mark, pace_at, arrived, beyond, closing, opener_step, opened, branch_level, level_inside, guard_threads, value_at, level_at, cells_of, tracks_of, channels_of, cell_of, raised, head_of_core, TrackParts, stepped, after_turn, arrive_in, with_cells, with_channels, nil_port, added_port, added_entries, entry_of, channel_of, level_of_port, mem, state_of}
 use Rattle.survey.specs.Table.{step_at_place, bytes_of, Ways}
 use Rattle.runs.specs.Views.{openers, Leveled, spot, ThreadView, Views, HoldsState, size_of_port}
@@ -71,7 +71,7 @@ pub opener_loop : (fs r : List Frame) (ms : List Mark) (b d : ℕ) (e : Expr) (x
 opener_loop fs r ms b zero e x n os h = absurd h
 opener_loop fs r ms b (suc d) e x n os h = let q : suc d - 1 ≡ d = omega arith in ap (λ (z : ℕ). drop (get_or ms (b + z) nil_mark).opener fs) q ∙ h.0
 
-module _ (most : ℕ) (sc : Script) (table : List Step) (code : List ℕ) (c : Core) (ms : List Mark) (es : List Entry) (ts : List Thread) (v : Views most sc table code c ms es ts) (i : ℕ) where
+module _ (most : ℕ) (sc : Script) (after : ℕ → List Frame) (table : List Step) (code : List ℕ) (c : Core) (ms : List Mark) (es : List Entry) (ts : List Thread) (v : Views most sc after table code c ms es ts) (i : ℕ) where
   -- Past the end of a way.
   pub beyond_here : (w : Bool) (l : ℕ) (a b n : Code) (os : List Open) (rest : List Frame) → drop (get_or c.threads i nil_place).at (script_frames sc) ≡ flatten_inside (in_branch l w a b n ∷ os) rest
       → drop (beyond (step_at_place table (get_or c.threads i nil_place).at).kind (step_at_place table (get_or c.threads i nil_place).at).other (get_or c.threads i nil_place).at) (script_frames sc) ≡ flatten n (flatten_inside os rest)
@@ -85,7 +85,7 @@ module _ (most : ℕ) (sc : Script) (table : List Step) (code : List ℕ) (c : C
 
 -- Expressions
 
-module _ (most : ℕ) (k : Levels) (sc : Script) (table : List Step) (code : List ℕ) (ss : List ℤ) (c : Core) (ms : List Mark) (es : List Entry) (ts : List Thread) (v : Views most sc table code c ms es ts) where
+module _ (most : ℕ) (k : Levels) (sc : Script) (after : ℕ → List Frame) (table : List Step) (code : List ℕ) (ss : List ℤ) (c : Core) (ms : List Mark) (es : List Entry) (ts : List Thread) (v : Views most sc after table code c ms es ts) where
   pub value_is : (bytes : List ℕ) (e : Expr) → (decode 0 bytes).ops ≡ e → value_at c ss bytes ≡ value_of k sc (state_of c ss es ts) e
   value_is bytes e q = ap (λ (x : Expr). top (eval (cells_of c) (tracks_of c ss) x [])) q
 
@@ -94,7 +94,7 @@ module _ (most : ℕ) (k : Levels) (sc : Script) (table : List Step) (code : Lis
 
 -- One turn
 
-module _ (most : ℕ) (k : Levels) (sc : Script) (table : List Step) (code : List ℕ) (ss : List ℤ) (c : Core) (ms : List Mark) (es : List Entry) (ts : List Thread) (v : Views most sc table code c ms es ts) (fed : TrackParts c ss) (i : ℕ) (within : i < c.head.threads) where
+module _ (most : ℕ) (k : Levels) (sc : Script) (after : ℕ → List Frame) (table : List Step) (code : List ℕ) (ss : List ℤ) (c : Core) (ms : List Mark) (es : List Entry) (ts : List Thread) (v : Views most sc after table code c ms es ts) (fed : TrackParts c ss) (i : ℕ) (within : i < c.head.threads) where
   abbrev at_now : Place
   at_now = get_or c.threads i nil_place
 
@@ -105,28 +105,28 @@ module _ (most : ℕ) (k : Levels) (sc : Script) (table : List Step) (code : Lis
   state_now = state_of c ss es ts
 
   abbrev behind : List Frame
-  behind = behind_thread sc i
+  behind = after i
 
   abbrev View : List Mark → Place → Thread → Type 0
-  View ns p t = ThreadView (head_of_core c) (script_frames sc) (behind_thread sc i) table ns i p t
+  View ns p t = ThreadView (head_of_core c) (script_frames sc) (after i) table ns i p t
 
   abbrev ViewOf : ℕ → Type 0
-  ViewOf j = ThreadView (head_of_core c) (script_frames sc) (behind_thread sc j) table ms j (get_or c.threads j nil_place) (get_or ts j ended)
+  ViewOf j = ThreadView (head_of_core c) (script_frames sc) (after j) table ms j (get_or c.threads j nil_place) (get_or ts j ended)
 
   abbrev Next : Pace → Kind → State → Type 0
-  Next q kd s = HoldsState (suc most) c.turns sc table code ss (stepped k table code ss i q kd (mem c ms es) at_now step_now) s
+  Next q kd s = HoldsState (suc most) c.turns sc after table code ss (stepped k table code ss i q kd (mem c ms es) at_now step_now) s
 
   -- A while whose test is z.
   abbrev LoopTo : Bool → State → Type 0
-  LoopTo z s = HoldsState (suc most) c.turns sc table code ss (mem (cond z (arrive_in table i c step_now.other at_now.depth) (arrive_in table i c (at_now.at + 1) (at_now.depth + 1))) (cond z ms (opened i ms at_now (level_inside ms (first_mark i) at_now.depth))) es) s
+  LoopTo z s = HoldsState (suc most) c.turns sc after table code ss (mem (cond z (arrive_in table i c step_now.other at_now.depth) (arrive_in table i c (at_now.at + 1) (at_now.depth + 1))) (cond z ms (opened i ms at_now (level_inside ms (first_mark i) at_now.depth))) es) s
 
   -- An if of level l whose test is z.
   abbrev BranchTo : Bool → ℕ → State → Type 0
-  BranchTo z l s = HoldsState (suc most) c.turns sc table code ss (mem (arrive_in table i (with_cells c (raised k step_now.assigned l c.cells c.head.variables)) (cond z step_now.other (at_now.at + 1)) (at_now.depth + 1)) (opened i ms at_now l) es) s
+  BranchTo z l s = HoldsState (suc most) c.turns sc after table code ss (mem (arrive_in table i (with_cells c (raised k step_now.assigned l c.cells c.head.variables)) (cond z step_now.other (at_now.at + 1)) (at_now.depth + 1)) (opened i ms at_now l) es) s
 
   -- A put on channel h.
   abbrev PutTo : ℕ → Entry → Bool → State → Type 0
-  PutTo h en b s = HoldsState (suc most) c.turns sc table code ss (mem (arrive_in table i (cond b (with_channels c (set c.channels h (added_port (get_or c.channels h nil_port)))) c) (at_now.at + 1) at_now.depth) ms (cond b (added_entries (get_or c.channels h nil_port) en es) es)) s
+  PutTo h en b s = HoldsState (suc most) c.turns sc after table code ss (mem (arrive_in table i (cond b (with_channels c (set c.channels h (added_port (get_or c.channels h nil_port)))) c) (at_now.at + 1) at_now.depth) ms (cond b (added_entries (get_or c.channels h nil_port) en es) es)) s
 
   pick_loop : (target : Bool → State) (z : Bool) → LoopTo true (target true) → LoopTo false (target false) → LoopTo z (target z)
   pick_loop target true x y = x
@@ -162,17 +162,17 @@ module _ (most : ℕ) (k : Levels) (sc : Script) (table : List Step) (code : Lis
   }
 
   plain : (cs : List Cell) (ns : List Mark) (p : Place) (t : Thread) (s : State) → length cs ≡ 64 → length ns ≡ length ms → Others i ms ns → View ns p t
-      → s ≡ state_of (turned c i cs c.channels p) ss es (set ts i t) → HoldsState (suc most) c.turns sc table code ss (mem (turned c i cs c.channels p) ns es) s
+      → s ≡ state_of (turned c i cs c.channels p) ss es (set ts i t) → HoldsState (suc most) c.turns sc after table code ss (mem (turned c i cs c.channels p) ns es) s
   plain cs ns p t s long same others tv e = record {
     ts = set ts i t;
     is = e;
     counted = refl;
     fed = fed;
-    views = views_next most sc table code c ms es ts v i within cs c.channels ns es p t long (ports_kept most sc table code c ms es ts v) same others tv;
+    views = views_next most sc after table code c ms es ts v i within cs c.channels ns es p t long (ports_kept most sc after table code c ms es ts v) same others tv;
   }
 
   -- The same memory, by another place.
-  moves : (p : Place) (t : Thread) → View ms p t → HoldsState (suc most) c.turns sc table code ss (mem (turned c i c.cells c.channels p) ms es) (set_thread state_now i t)
+  moves : (p : Place) (t : Thread) → View ms p t → HoldsState (suc most) c.turns sc after table code ss (mem (turned c i c.cells c.channels p) ms es) (set_thread state_now i t)
   moves p t tv = plain c.cells ms p t _ v.cells refl (others_none i ms) tv refl
 
   case_skip : (cd : Code) (os : List Open) → View ms at_now (at_code (skip cd) os) → Next at_now.pace step_now.kind (step_at k sc state_now i (skip cd) running os)
@@ -185,14 +185,14 @@ module _ (most : ℕ) (k : Levels) (sc : Script) (table : List Step) (code : Lis
   -- The end of a way: idle turns, then past the end.
   close_now : (j : ℕ) (w : Bool) (l : ℕ) (a b n : Code) (os : List Open) → Stands (script_frames sc) behind (spot ms i at_now) done (in_branch l w a b n ∷ os)
       → Leveled ms (first_mark i) at_now.depth (in_branch l w a b n ∷ os) → ValidInside (head_of_core c) (in_branch l w a b n ∷ os) → at_now.depth ≤ 16
-      → HoldsState (suc most) c.turns sc table code ss (mem (closing table i j c at_now step_now) ms es) (set_thread state_now i (close_branch j (in_branch l w a b n) os n))
+      → HoldsState (suc most) c.turns sc after table code ss (mem (closing table i j c at_now step_now) ms es) (set_thread state_now i (close_branch j (in_branch l w a b n) os n))
   close_now zero w l a b n os st lv va deep =
-      moves _ (at_code n os) (arrive_view ms _ (at_now.depth - 1) n os (beyond_here most sc table code c ms es ts v i w l a b n os behind st.here)
+      moves _ (at_code n os) (arrive_view ms _ (at_now.depth - 1) n os (beyond_here most sc after table code c ms es ts v i w l a b n os behind st.here)
       (opened_pop (script_frames sc) behind ms (first_mark i) at_now.depth _ os st.opened) (leveled_pop ms (first_mark i) at_now.depth _ os lv) va.3 va.4 (omega arith))
   close_now (suc j) w l a b n os st lv va deep =
       let z : eqb (suc j) 0 ≡ false = ne_eqb (suc j) 0 (λ (q : suc j ≡ 0). omega arith) in
       let q : suc j - 1 ≡ j = omega arith in
-      let G : Bool → Type 0 = λ t. HoldsState (suc most) c.turns sc table code ss (mem (cond t (turned c i c.cells c.channels (arrived table (beyond step_now.kind step_now.other at_now.at) (at_now.depth - 1))) (turned c i c.cells c.channels (record { at = at_now.at; depth = at_now.depth; pace = Idling (suc j - 1) }))) ms es) (set_thread state_now i (at_idle j (in_branch l w a b n ∷ os))) in
+      let G : Bool → Type 0 = λ t. HoldsState (suc most) c.turns sc after table code ss (mem (cond t (turned c i c.cells c.channels (arrived table (beyond step_now.kind step_now.other at_now.at) (at_now.depth - 1))) (turned c i c.cells c.channels (record { at = at_now.at; depth = at_now.depth; pace = Idling (suc j - 1) }))) ms es) (set_thread state_now i (at_idle j (in_branch l w a b n ∷ os))) in
       subst G (sym z)
       (moves _ (at_idle j (in_branch l w a b n ∷ os)) (record { stands = record { stands = st; idle = refl }; leveled = lv; paced = ap Idling q; idles = tt; valid = record { code = tt; inside = va }; deep = deep }))
 
@@ -214,13 +214,13 @@ module _ (most : ℕ) (k : Levels) (sc : Script) (table : List Step) (code : Lis
       let st = tv.stands.stands in
       let r = reads (head_of_core c) code table (script_frames sc) v.tabled at_now.at _ st.here in
       let way = ways_now l true a b n os behind st.opened in
-      let G : ℕ → Type 0 = λ j. HoldsState (suc most) c.turns sc table code ss (mem (closing table i j c at_now step_now) ms es) (set_thread state_now i (close_branch (lag true a b) (in_branch l true a b n) os n)) in
+      let G : ℕ → Type 0 = λ j. HoldsState (suc most) c.turns sc after table code ss (mem (closing table i j c at_now step_now) ms es) (set_thread state_now i (close_branch (lag true a b) (in_branch l true a b n) os n)) in
       at_kind Else _ tv.paced r.0 (subst G (sym way.first) (close_now (lag true a b) true l a b n os st tv.leveled tv.valid.inside tv.deep))
   case_branch_end l false a b n os tv =
       let st = tv.stands.stands in
       let r = reads (head_of_core c) code table (script_frames sc) v.tabled at_now.at _ st.here in
       let way = ways_now l false a b n os behind st.opened in
-      let G : ℕ → Type 0 = λ j. HoldsState (suc most) c.turns sc table code ss (mem (closing table i j c at_now step_now) ms es) (set_thread state_now i (close_branch (lag false a b) (in_branch l false a b n) os n)) in
+      let G : ℕ → Type 0 = λ j. HoldsState (suc most) c.turns sc after table code ss (mem (closing table i j c at_now step_now) ms es) (set_thread state_now i (close_branch (lag false a b) (in_branch l false a b n) os n)) in
       at_kind EndIf _ tv.paced r (subst G (sym way.second) (close_now (lag false a b) false l a b n os st tv.leveled tv.valid.inside tv.deep))
 
   case_loop_end : (e : Expr) (b n : Code) (os : List Open) → View ms at_now (at_code done (in_loop e b n ∷ os)) → Next at_now.pace step_now.kind (step_at k sc state_now i done running (in_loop e b n ∷ os))
@@ -244,23 +244,22 @@ module _ (most : ℕ) (k : Levels) (sc : Script) (table : List Step) (code : Lis
       (opened_pop (script_frames sc) behind ms (first_mark i) at_now.depth _ os st.opened) (leveled_pop ms (first_mark i) at_now.depth _ os tv.leveled) va.2 va.3 (omega arith)))
 
   value_here : (bytes : List ℕ) (e : Expr) → (decode 0 bytes).ops ≡ e → value_at c ss bytes ≡ value_of k sc state_now e
-  value_here = value_is most k sc table code ss c ms es ts v
+  value_here = value_is most k sc after table code ss c ms es ts v
 
   level_here : (bytes : List ℕ) (e : Expr) → (decode 0 bytes).ops ≡ e → level_at k c bytes ≡ level_of k sc state_now e
-  level_here = level_is most k sc table code ss c ms es ts v
+  level_here = level_is most k sc after table code ss c ms es ts v
 
   case_assign : (x : ℕ) (e : Expr) (cd : Code) (os : List Open) → View ms at_now (at_code (assign x e cd) os) → Next at_now.pace step_now.kind (step_at k sc state_now i (assign x e cd) running os)
   unfolding step_at
   case_assign x e cd os tv =
       let st = tv.stands.stands in
-      let d = v.declares in
-      let few = d.few_variables in
+      let few = c.few.1 in
       let r = reads (head_of_core c) code table (script_frames sc) v.tabled at_now.at _ st.here in
       let below = ltb→lt x c.head.variables tv.valid.code.0 in
       let all : (j : ℕ) → j < length ts → ViewOf j = λ j lt. v.threads j (omega (arith, v.count)) in
       let num : step_now.number ≡ x = r.1 in
       let guarded : guard_threads k table ms step_now.number c.threads c.head.threads ≡ guard k x ts 0 =
-      (λ j. guard_threads k table ms (num j) c.threads (sym v.count j)) ∙ guard_is k (head_of_core c) code table (script_frames sc) v.tabled x (omega arith) (behind_thread sc) ms c.threads ts all in
+      (λ j. guard_threads k table ms (num j) c.threads (sym v.count j)) ∙ guard_is k (head_of_core c) code table (script_frames sc) v.tabled x (omega arith) after ms c.threads ts all in
       let cell : Cell = record { value = value_at c ss (bytes_of code step_now); level = k.join (level_at k c (bytes_of code step_now)) (guard_threads k table ms step_now.number c.threads c.head.threads) } in
       let new : ModelCell = record { value = value_of k sc state_now e; level = k.join (level_of k sc state_now e) (guard k x ts 0) } in
       let same : cell_of cell ≡ new = λ j. record { value = value_here _ e r.2.ops j; level = k.join (level_here _ e r.2.ops j) (guarded j) } in
@@ -277,7 +276,7 @@ module _ (most : ℕ) (k : Levels) (sc : Script) (table : List Step) (code : Lis
   room_here os l t =
       let n = leveled_length ms (first_mark i) at_now.depth os l in
       let lt = ltb→lt (length os) 16 t in
-      let few = v.declares.few in
+      let few = c.few.0 in
       let room = v.room in
       (omega arith, omega arith)
 
@@ -298,7 +297,7 @@ module _ (most : ℕ) (k : Levels) (sc : Script) (table : List Step) (code : Lis
   entered : (cs : List Cell) (p l : ℕ) (t : Thread) (s : State) (os : List Open) → Leveled ms (first_mark i) at_now.depth os → T (ltb (length os) 16) → length cs ≡ 64
       → View (opened i ms at_now l) (arrived table p (at_now.depth + 1)) t
       → s ≡ state_of (turned c i cs c.channels (arrived table p (at_now.depth + 1))) ss es (set ts i t)
-      → HoldsState (suc most) c.turns sc table code ss (mem (turned c i cs c.channels (arrived table p (at_now.depth + 1))) (opened i ms at_now l) es) s
+      → HoldsState (suc most) c.turns sc after table code ss (mem (turned c i cs c.channels (arrived table p (at_now.depth + 1))) (opened i ms at_now l) es) s
   entered cs p l t s os leveled d16 long tv e =
       plain cs (opened i ms at_now l) (arrived table p (at_now.depth + 1)) t s long (length-set ms _ _) (others_set i at_now.depth ms _ (room_here os leveled d16).0) tv e
 
@@ -336,7 +335,7 @@ module _ (most : ℕ) (k : Levels) (sc : Script) (table : List Step) (code : Lis
   case_branch e a b cd os tv =
       let st = tv.stands.stands in
       let va = tv.valid.code in
-      let few = v.declares.few_variables in
+      let few = c.few.1 in
       let r = reads (head_of_core c) code table (script_frames sc) v.tabled at_now.at _ st.here in
       let way = v.tabled.ways at_now.at e a b cd _ st.here in
       let l = k.join (context os) (level_of k sc state_now e) in
@@ -364,7 +363,7 @@ module _ (most : ℕ) (k : Levels) (sc : Script) (table : List Step) (code : Lis
   unfolding step_at
   case_done tv =
       at_kind End _ tv.paced (reads (head_of_core c) code table (script_frames sc) v.tabled at_now.at _ tv.stands.stands.here)
-      (record { ts = ts; is = refl; counted = refl; fed = fed; views = views_later most sc table code c ms es ts v })
+      (record { ts = ts; is = refl; counted = refl; fed = fed; views = views_later most sc after table code c ms es ts v })
 
   abbrev entry_to : ℕ → Entry
   entry_to to =
@@ -376,7 +375,7 @@ module _ (most : ℕ) (k : Levels) (sc : Script) (table : List Step) (code : Lis
   case_put h e cd os tv =
       let st = tv.stands.stands in
       let d = v.declares in
-      let few = d.few_channels in
+      let few = c.few.3 in
       let long = v.ports in
       let r = reads (head_of_core c) code table (script_frames sc) v.tabled at_now.at _ st.here in
       let below : h < c.head.channels = ltb→lt h c.head.channels tv.valid.code.0 in
@@ -410,7 +409,7 @@ module _ (most : ℕ) (k : Levels) (sc : Script) (table : List Step) (code : Lis
         is = ap (λ (x : List ModelChannel). record { cells = cells_of c; threads = set ts i t; tracks = tracks_of c ss; channels = x; turns = c.turns }) (sym chs);
         counted = refl;
         fed = fed;
-        views = views_next most sc table code c ms es ts v i within c.cells _ ms _ _ t v.cells (ports_added n c.channels h (entry_to q.level) es most (omega arith) below v.parts v.apart c refl refl long) refl (others_none i ms) view;
+        views = views_next most sc after table code c ms es ts v i within c.cells _ ms _ _ t v.cells (ports_added c h (entry_to q.level) es most (omega arith) below v.parts v.apart long) refl (others_none i ms) view;
       })
       (moves _ t view))))
 
@@ -432,23 +431,23 @@ module _ (most : ℕ) (k : Levels) (sc : Script) (table : List Step) (code : Lis
   turn_case (lock x e b cd) running os tv = case_lock x e b cd os tv
 
   -- A turn of the memory stands for the step of the state.
-  pub turn_views : HoldsState (suc most) c.turns sc table code ss (after_turn k table code ss i (mem c ms es)) (step k sc state_now i)
+  pub turn_views : HoldsState (suc most) c.turns sc after table code ss (after_turn k table code ss i (mem c ms es)) (step k sc state_now i)
   turn_views = let t = get_or ts i ended in turn_case t.code t.pace t.inside (v.threads i within)
 
 -- The turn is counted.
-abbrev pub with_turns : Core → ℕ → Core
-with_turns c n = record { head = c.head; cells = c.cells; threads = c.threads; tracks = c.tracks; channels = c.channels; turns = n }
+abbrev pub with_turns : (c : Core) → ℕ → Few c.head → Core
+with_turns c n f = record { head = c.head; cells = c.cells; threads = c.threads; tracks = c.tracks; channels = c.channels; turns = n; few = f }
 
-pub tick : (given : ℕ) (sc : Script) (table : List Step) (code : List ℕ) (ss : List ℤ) (c : Core) (ms : List Mark) (es : List Entry) (s : State) → given < 1000000 → HoldsState (suc given) given sc table code ss (mem c ms es) s
-    → HoldsState (given + 1) (given + 1) sc table code ss (mem (with_turns c (given + 1)) ms es) (one_more s)
-tick given sc table code ss c ms es s lt h =
+pub tick : (given : ℕ) (sc : Script) (after : ℕ → List Frame) (table : List Step) (code : List ℕ) (ss : List ℤ) (c : Core) (ms : List Mark) (es : List Entry) (s : State) (f : Few c.head) → given < 1000000 → HoldsState (suc given) given sc after table code ss (mem c ms es) s
+    → HoldsState (given + 1) (given + 1) sc after table code ss (mem (with_turns c (given + 1) f) ms es) (one_more s)
+tick given sc after table code ss c ms es s f lt h =
     let v = h.views in
     let n : suc given ≡ given + 1 = sym (add-one given) in
-    let P : ℕ → Type 0 = λ z. HoldsState z (given + 1) sc table code ss (mem (with_turns c (given + 1)) ms es) (one_more s) in
+    let P : ℕ → Type 0 = λ z. HoldsState z (given + 1) sc after table code ss (mem (with_turns c (given + 1) f) ms es) (one_more s) in
     subst P n (record {
       ts = h.ts;
       is = ap one_more h.is ∙ ap (λ (z : ℕ). record { cells = cells_of c; threads = h.ts; tracks = tracks_of c ss; channels = channels_of c es; turns = z }) (ap suc h.counted ∙ n);
       counted = refl;
       fed = h.fed;
-      views = record { tabled = v.tabled; declares = record { head = v.declares.head; track_levels = v.declares.track_levels; track_sizes = v.declares.track_sizes; channel_levels = v.declares.channel_levels; channel_sizes = v.declares.channel_sizes; few = v.declares.few; few_variables = v.declares.few_variables; few_tracks = v.declares.few_tracks; few_channels = v.declares.few_channels }; cells = v.cells; places = v.places; ports = v.ports; room = v.room; count = v.count; turns = omega arith; parts = v.parts; apart = v.apart; threads = v.threads };
+      views = record { tabled = v.tabled; declares = record { variables = v.declares.variables; track_levels = v.declares.track_levels; channel_levels = v.declares.channel_levels; channel_sizes = v.declares.channel_sizes }; cells = v.cells; places = v.places; ports = v.ports; room = v.room; count = v.count; turns = omega arith; parts = v.parts; apart = v.apart; threads = v.threads };
     })

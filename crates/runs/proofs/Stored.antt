@@ -1,9 +1,11 @@
 -- Tracks and channels: how much they hold together, and what a script declares of them.
-use Rattle.std.proofs.Common.{◌≡◌, ℕ, zero, suc, ◌+◌, ◌<◌, ◌≤◌, Bool, ◌&&◌, T, eqb, leb, List, [], ◌∷◌, map, length, get_or, take, set, sym, refl, ap, ◌∙◌, subst, ⊎_elim, arith, leb→le, length-take-le, get_or-set_other, get_or-take, get_or-set_same}
+use Rattle.std.proofs.Common.{◌≡◌, ℕ, zero, suc, ◌+◌, ◌<◌, ◌≤◌, Bool, ◌&&◌, T, eqb, leb, List, [], ◌∷◌, ◌++◌, map, length, get_or, take, set, sym, refl, ap, ◌∙◌, subst, ⊎_elim, add-one, arith, leb→le, length-take-le, get_or-set_other, get_or-take, get_or-set_same}
 use mathlib.Core.Option.{some}
 use lib.ListN.{length-map}
-use Rattle.std.proofs.lemmas.List.{same_lists, get_or-map}
+use Rattle.std.proofs.lemmas.List.{same_lists, get_or-map, get_or_append_left, get_or_default}
+use Rattle.std.specs.List.{sum_by}
 use Rattle.std.proofs.lemmas.Bool.{cases_lt}
+use Rattle.std.proofs.lemmas.List.Sums.{sum_by_more}
 use Rattle.lattice.specs.Levels.{Levels}
 use Rattle.codec.specs.Frames.{Frame, Head}
 use Rattle.codec.specs.Frames.Frame.{track, channel}
@@ -31,12 +33,26 @@ pub room_more : (ps : List Port) (n : ℕ) → room ps (suc n) ≡ room ps n + (
 unfolding room
 room_more ps n = refl
 
+-- What they hold together is the sum of their sizes.
+pub room_is : (ps : List Port) (n : ℕ) → n ≤ length ps → room ps n ≡ sum_by (λ (p : Port). p.size) (take n ps)
+unfolding room
+room_is ps zero le = refl
+room_is ps (suc n) le =
+    ap (λ (x : ℕ). x + (get_or ps n nil_port).size) (room_is ps n (omega arith))
+    ∙ sym (ap (λ (m : ℕ). sum_by (λ (p : Port). p.size) (take m ps)) (sym (add-one n)) ∙ sum_by_more (λ (p : Port). p.size) ps n nil_port (omega arith))
+
 -- A part behind the first n does not count among them.
 pub room_set : (ps : List Port) (h : ℕ) (p : Port) (n : ℕ) → n ≤ h → room (set ps h p) n ≡ room ps n
 unfolding room
 room_set ps h p zero le = refl
 room_set ps h p (suc n) le =
     λ i. room_set ps h p n (omega arith) i + (get_or-set_other ps h n p nil_port (λ (q : n ≡ h). omega arith) i).size
+
+-- Nor does what follows them in the list.
+room_front : (ps qs : List Port) (n : ℕ) → n ≤ length ps → room (ps ++ qs) n ≡ room ps n
+unfolding room
+room_front ps qs zero le = refl
+room_front ps qs (suc n) le = λ i. room_front ps qs n (omega arith) i + (get_or_append_left ps qs nil_port n (omega arith) i).size
 
 -- Those of the same sizes hold as much together.
 pub room_same : (ps qs : List Port) (n : ℕ) → ((h : ℕ) → (get_or qs h nil_port).size ≡ (get_or ps h nil_port).size) → room qs n ≡ room ps n
@@ -67,6 +83,13 @@ ports_more slab first h ps p within before here j lt = ⊎_elim
     subst Q e (subst P (sym (get_or-set_same ps h p nil_port within)) (subst R (sym (room_set ps h p h (omega arith))) here)))
     (cases_lt j h)
 
+-- Others may follow them in the list.
+pub ports_front : (slab : List ℕ) (first n : ℕ) (ps qs : List Port) → n ≤ length ps → PortsAt slab first n ps → PortsAt slab first n (ps ++ qs)
+ports_front slab first n ps qs le at h lt =
+    let P : Port → Type 0 = PortAt slab (first + h) (room (ps ++ qs) h) in
+    let R : ℕ → Type 0 = λ z. PortAt slab (first + h) z (get_or ps h nil_port) in
+    subst P (sym (get_or_append_left ps qs nil_port h (omega arith))) (subst R (sym (room_front ps qs h (omega arith))) (at h lt))
+
 -- What stands in a list of tracks or channels, and behind it.
 
 record Numbered (f : ℕ → ℕ → ℕ → Frame) (n l z : ℕ) (fs : List Frame) : Type 0 where
@@ -95,18 +118,13 @@ ports_fresh kind k slab fs f stored holds ls zs first n ps same long few numbere
     let field : (g : Port → ℕ) (xs : List ℕ) → length xs ≡ n → ((h : ℕ) → h < n → get_or xs h 0 ≡ g (get_or ps h nil_port)) → xs ≡ map g (take n ps) =
     λ g xs size each. same_lists xs (map g (take n ps)) (size ∙ sym (length-map (take n ps) g ∙ cut))
     (λ i d lt. let below : i < n = omega arith in
-    get_d_default xs i d lt ∙ each i below ∙ sym (ap g (get_or-take n ps i nil_port below)) ∙ sym (get_or-map g (take n ps) i nil_port d (omega arith))) in
+    get_or_default xs i d 0 lt ∙ each i below ∙ sym (ap g (get_or-take n ps i nil_port below)) ∙ sym (get_or-map g (take n ps) i nil_port d (omega arith))) in
     record {
       levels = field level_of_port ls long (λ h lt. sym (ap level_of_port (found h lt)));
       sizes = field size_of_port zs (same ∙ long) (λ h lt. sym (ap size_of_port (found h lt)));
       laid = λ h lt. ap (λ p. p.start) (found h lt);
       empty = λ h lt. (ap (λ p. p.count) (found h lt), ap (λ p. p.missed) (found h lt));
     }
-  where
-    get_d_default : (xs : List ℕ) (i d : ℕ) → i < length xs → get_or xs i d ≡ get_or xs i 0
-    get_d_default [] i d lt = absurd (omega arith)
-    get_d_default (x ∷ xs) zero d lt = refl
-    get_d_default (x ∷ xs) (suc i) d lt = get_d_default xs i d (omega arith)
 
 -- Only the first frame of a script is a header.
 

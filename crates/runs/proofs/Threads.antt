@@ -6,7 +6,6 @@ use Rattle.script.specs.Code.{Script}
 use Rattle.codec.specs.Frames.{Head, Frame}
 use Rattle.script.specs.Trees.{script_frames}
 use Rattle.model.specs.Places.{StandsAt}
-use Rattle.model.specs.Fitting.{behind_thread}
 use Rattle.survey.specs.declared.table.Step.{Step}
 use Rattle.runs.specs.declared.Mark.{Mark}
 use Rattle.runs.specs.declared.Cell.{Cell}
@@ -45,7 +44,7 @@ others_set i d ms v lt j ne e l = get_or-set_other ms (i * 16 + d) (j * 16 + e) 
 
 -- A core with other cells, other channels and a new place of thread i.
 abbrev pub turned : Core → ℕ → List Cell → List Port → Place → Core
-turned c i cs qs p = record { head = c.head; cells = cs; threads = set c.threads i p; tracks = c.tracks; channels = qs; turns = c.turns }
+turned c i cs qs p = record { head = c.head; cells = cs; threads = set c.threads i p; tracks = c.tracks; channels = qs; turns = c.turns; few = c.few }
 
 pub record Ports (most : ℕ) (c : Core) (qs : List Port) (es : List Entry) : Type 0 where
   pub long : length qs ≡ 8
@@ -54,21 +53,21 @@ pub record Ports (most : ℕ) (c : Core) (qs : List Port) (es : List Entry) : Ty
   pub parts : (h : ℕ) → h < c.head.channels → Part (get_or qs h nil_port) most es
   pub apart : (h j : ℕ) → h < c.head.channels → j < c.head.channels → h ≢ j → Apart (get_or qs h nil_port) (get_or qs j nil_port)
 
-module _ (most : ℕ) (sc : Script) (table : List Step) (code : List ℕ) (c : Core) (ms : List Mark) (es : List Entry) (ts : List Thread) (v : Views most sc table code c ms es ts) where
+module _ (most : ℕ) (sc : Script) (after : ℕ → List Frame) (table : List Step) (code : List ℕ) (c : Core) (ms : List Mark) (es : List Entry) (ts : List Thread) (v : Views most sc after table code c ms es ts) where
   more : (q : Port) → Part q most es → Part q (suc most) es
   more q h = let le = h.missed in record { part = h.part; held = h.held; missed = omega arith }
 
   pub ports_kept : Ports (suc most) c c.channels es
   ports_kept = record { long = v.ports; levels = refl; sizes = refl; parts = λ h lt. more _ (v.parts h lt); apart = v.apart }
 
-  pub views_later : Views (suc most) sc table code c ms es ts
+  pub views_later : Views (suc most) sc after table code c ms es ts
   views_later = record { tabled = v.tabled; declares = v.declares; cells = v.cells; places = v.places; ports = v.ports; room = v.room; count = v.count; turns = v.turns; parts = ports_kept.parts; apart = v.apart; threads = v.threads }
 
-module _ (most : ℕ) (sc : Script) (table : List Step) (code : List ℕ) (c : Core) (ms : List Mark) (es : List Entry) (ts : List Thread) (v : Views most sc table code c ms es ts) (i : ℕ) (within : i < c.head.threads) where
+module _ (most : ℕ) (sc : Script) (after : ℕ → List Frame) (table : List Step) (code : List ℕ) (c : Core) (ms : List Mark) (es : List Entry) (ts : List Thread) (v : Views most sc after table code c ms es ts) (i : ℕ) (within : i < c.head.threads) where
   pub views_next : (cs : List Cell) (qs : List Port) (ns : List Mark) (fs : List Entry) (p : Place) (t : Thread)
       → length cs ≡ 64 → Ports (suc most) c qs fs → length ns ≡ length ms → Others i ms ns
-      → ThreadView (head_of_core c) (script_frames sc) (behind_thread sc i) table ns i p t
-      → Views (suc most) sc table code (turned c i cs qs p) ns fs (set ts i t)
+      → ThreadView (head_of_core c) (script_frames sc) (after i) table ns i p t
+      → Views (suc most) sc after table code (turned c i cs qs p) ns fs (set ts i t)
   views_next cs qs ns fs p t long ports same others tv =
       let d = v.declares in
       let count = v.count in
@@ -77,15 +76,10 @@ module _ (most : ℕ) (sc : Script) (table : List Step) (code : List ℕ) (c : C
       record {
         tabled = v.tabled;
         declares = record {
-          head = d.head;
+          variables = d.variables;
           track_levels = d.track_levels;
-          track_sizes = d.track_sizes;
           channel_levels = d.channel_levels ∙ sym ports.levels;
           channel_sizes = d.channel_sizes ∙ sym ports.sizes;
-          few = d.few;
-          few_variables = d.few_variables;
-          few_tracks = d.few_tracks;
-          few_channels = d.few_channels;
         };
         cells = long;
         places = length-set c.threads i p ∙ places;
@@ -97,14 +91,14 @@ module _ (most : ℕ) (sc : Script) (table : List Step) (code : List ℕ) (c : C
         apart = ports.apart;
         threads = λ j lt. ⊎_elim
             (λ (e : j ≡ i).
-            let few = d.few in
-            let P : Place → Type 0 = λ x. ThreadView (head_of_core c) (script_frames sc) (behind_thread sc i) table ns i x t in
-            let Q : Thread → Type 0 = λ u. ThreadView (head_of_core c) (script_frames sc) (behind_thread sc i) table ns i (get_or (set c.threads i p) i nil_place) u in
-            let R : ℕ → Type 0 = λ x. ThreadView (head_of_core c) (script_frames sc) (behind_thread sc x) table ns x (get_or (set c.threads i p) x nil_place) (get_or (set ts i t) x ended) in
+            let few = c.few.0 in
+            let P : Place → Type 0 = λ x. ThreadView (head_of_core c) (script_frames sc) (after i) table ns i x t in
+            let Q : Thread → Type 0 = λ u. ThreadView (head_of_core c) (script_frames sc) (after i) table ns i (get_or (set c.threads i p) i nil_place) u in
+            let R : ℕ → Type 0 = λ x. ThreadView (head_of_core c) (script_frames sc) (after x) table ns x (get_or (set c.threads i p) x nil_place) (get_or (set ts i t) x ended) in
             subst R (sym e) (subst Q (sym (get_or-set_same ts i t ended (omega arith))) (subst P (sym (get_or-set_same c.threads i p nil_place (omega arith))) tv)))
             (λ (ne : j ≢ i).
-            let P : Place → Type 0 = λ x. ThreadView (head_of_core c) (script_frames sc) (behind_thread sc j) table ns j x (get_or ts j ended) in
-            let Q : Thread → Type 0 = λ u. ThreadView (head_of_core c) (script_frames sc) (behind_thread sc j) table ns j (get_or (set c.threads i p) j nil_place) u in
-            subst Q (sym (get_or-set_other ts i j t ended ne)) (subst P (sym (get_or-set_other c.threads i j p nil_place ne)) (thread_kept (head_of_core c) (script_frames sc) (behind_thread sc j) table ms ns j _ _ (others j ne) (v.threads j lt))))
+            let P : Place → Type 0 = λ x. ThreadView (head_of_core c) (script_frames sc) (after j) table ns j x (get_or ts j ended) in
+            let Q : Thread → Type 0 = λ u. ThreadView (head_of_core c) (script_frames sc) (after j) table ns j (get_or (set c.threads i p) j nil_place) u in
+            subst Q (sym (get_or-set_other ts i j t ended ne)) (subst P (sym (get_or-set_other c.threads i j p nil_place ne)) (thread_kept (head_of_core c) (script_frames sc) (after j) table ms ns j _ _ (others j ne) (v.threads j lt))))
             (cases_eq j i);
       }

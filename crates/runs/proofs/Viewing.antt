@@ -1,12 +1,12 @@
 -- A run and its slabs that stand for a state are memory that the turn loop works on, and what the loop leaves stands for the state after it.
-use Rattle.std.proofs.Common.{◌≡◌, ℕ, zero, suc, ◌+◌, ◌<◌, ◌≤◌, Bool, true, false, cond, not, ◌||◌, T, eqb, ◌≢◌, List, [], ◌∷◌, length, get_or, sym, refl, ap, ◌∙◌, subst, inl, inr, ⊎_elim, arith}
+use Rattle.std.proofs.Common.{◌≡◌, ℕ, zero, suc, ◌+◌, ◌<◌, ◌≤◌, Bool, true, false, cond, not, ◌||◌, T, eqb, ◌≢◌, List, [], ◌∷◌, map, length, get_or, drop, take, sym, refl, ap, ◌∙◌, subst, inl, inr, ⊎_elim, arith}
 use mathlib.Core.Option.{Option as Perhaps, none, some}
 use Rattle.std.proofs.lemmas.Bool.{cases_lt}
 use Rattle.std.specs.List.{AllByRecursion}
 use Rattle.lattice.specs.Levels.{Levels, Lawful}
 use Rattle.codec.specs.Frames.{Head, Frame}
 use Rattle.codec.specs.Frames.Frame.{header, track, channel, thread, thread_end, if, else, end_if, while, end_while, with, end_with, last}
-use Rattle.codec.specs.Shapes.{whole}
+use Rattle.codec.specs.Shapes.{head_of as as_head, whole}
 use Rattle.scheduler.specs.Turns.{Meaning}
 use Rattle.script.specs.Code.{Script}
 use Rattle.script.specs.Slabs.{Holds, frame_number}
@@ -14,7 +14,7 @@ use Rattle.script.specs.Trees.{head_of, script_frames, ValidScript}
 use Rattle.script.proofs.Framing.{frame_held}
 use Rattle.script.proofs.Unique.{one_tree}
 use Rattle.model.specs.Levels.{all_had, Levelled}
-use Rattle.model.specs.Machine.{State, Rules, advance, rules, ready_set, take_turn, all_finished, most_turns}
+use Rattle.model.specs.Machine.{State, advance, rules, ready_set, take_turn, all_finished, most_turns}
 use Rattle.model.specs.Threads.{Open, Thread, context, ended, Pace as ModelPace}
 use Rattle.model.specs.Threads.Pace.{running, idling}
 use Rattle.model.specs.Fitting.{AllAccounts, CodedRun, behind_thread, contexts, frame_at, is_thread_end}
@@ -22,6 +22,7 @@ use Rattle.model.specs.Places.{ValidThread}
 use Rattle.model.proofs.Tests.{both, is_true}
 use Rattle.model.proofs.Places.Fit.{places_fit}
 use Rattle.model.proofs.Places.Agreeing.{places_agree}
+use Rattle.survey.specs.Filling.{outer_first}
 use Rattle.survey.specs.Table.{step_at_place, Tabled}
 use Rattle.survey.specs.declared.table.Kind.{Kind}
 use Rattle.survey.specs.declared.table.Step.{Step}
@@ -33,16 +34,19 @@ use Rattle.runs.specs.declared.Place.{Place}
 use Rattle.runs.specs.declared.Port.{Port}
 use Rattle.runs.specs.declared.Core.{Core}
 use Rattle.runs.specs.Flat.{nil_mark, nil_place, nil_port, first_mark, head_of_core, pace_at, state_of}
-use Rattle.runs.specs.Kept.{room, entries_needed, samples_needed, Few, Held, Laid, Missed, Small, Whole}
+use Rattle.runs.specs.Kept.{room, entries_needed, samples_needed, Held, Laid, Missed, Small}
 use Rattle.runs.specs.Leaves.{Leaves}
-use Rattle.runs.specs.Views.{Apart, Leveled, Paced, Runs, ThreadView}
+use Rattle.runs.specs.Views.{Apart, Declares, DeclaresForTurns, Leveled, Paced, Runs, TabledForTurns, ThreadView, Unless, size_of_port}
 use Rattle.runs.specs.Memory.{Memory, StandsFor, account, changing, end_fits, mark_levels, pace_of}
 use Rattle.runs.proofs.Marks.{leveled_length}
 use Rattle.runs.proofs.Stored.{room_part, room_same}
 
+-- The arrays of a run have their lengths.
+abbrev pub Whole : Core → Type 0
+Whole c = (length c.cells ≡ 64) × (length c.threads ≡ 8) × (length c.tracks ≡ 8) × (length c.channels ≡ 8)
+
 -- What a run keeps.
 pub record Keeps (c : Core) : Type 0 where
-  pub few : Few c
   pub small : Small c
   pub tracks : Laid c.tracks c.head.tracks
   pub fed : Held c.tracks c.head.tracks
@@ -118,6 +122,13 @@ paced_to f kd p (idling n) k e = let P : Pace → Type 0 = λ q. (pace_of q ≡ 
 
 -- From memory that stands for a state to what the turn loop works on
 
+so_unless : (b : Bool) {P : Type 0} → P → Unless b P
+so_unless true x = tt
+so_unless false x = x
+
+for_turns : {h : Head} {code : List ℕ} {table : List Step} {fs : List Frame} → Tabled h code table fs → TabledForTurns h code table fs
+for_turns {h} {code} {table} {fs} t = record { here = λ p. so_unless (outer_first (drop p fs)) (t.here p); ways = t.ways; long = t.long; few = t.few }
+
 module _ (kind : ℕ) (k : Levels) (m : Memory) (sc : Script) (s : State) (st : StandsFor kind k m sc s) where
   abbrev count_is : length sc.codes ≡ m.core.head.threads
   count_is = ap (λ h. h.threads) st.declares.head
@@ -149,7 +160,7 @@ module _ (kind : ℕ) (k : Levels) (m : Memory) (sc : Script) (s : State) (st : 
           deep = omega arith;
         }
 
-    pub stands_runs : Keeps m.core → Runs sc table m.script m.samples (changing m) s
+    pub stands_runs : Keeps m.core → Runs sc (behind_thread sc) table m.script m.samples (changing m) s
     stands_runs keeps =
         let c = m.core in
         let sample-long = st.long.samples in
@@ -164,8 +175,13 @@ module _ (kind : ℕ) (k : Levels) (m : Memory) (sc : Script) (s : State) (st : 
             omega (arith, keeps.fed t lt, room_part c.tracks t c.head.tracks lt),
           );
           views = record {
-            tabled = subst (λ (h : Head). Tabled h m.script table (script_frames sc)) st.declares.head tabled;
-            declares = st.declares;
+            tabled = subst (λ (h : Head). TabledForTurns h m.script table (script_frames sc)) st.declares.head (for_turns tabled);
+            declares = record {
+              variables = ap (λ h. h.variables) st.declares.head;
+              track_levels = st.declares.track_levels;
+              channel_levels = st.declares.channel_levels;
+              channel_sizes = st.declares.channel_sizes;
+            };
             cells = keeps.whole.0;
             places = keeps.whole.1;
             ports = keeps.whole.3;
@@ -192,12 +208,22 @@ module _ (kind : ℕ) (k : Levels) (m m' : Memory) (sc : Script) (s s' : State) 
   abbrev samples_held : samples_needed m'.core ≡ samples_needed m.core
   samples_held = λ i. room (leaves.tracks i) (leaves.head i).tracks
 
-  pub runs_stands : Runs sc table m.script m.samples (changing m') s' → CodedRun k s' → StandsFor kind k m' sc s'
+  -- The header, the tracks and the sizes of channels are as they were, so the script declares what the run has.
+  still_declares : DeclaresForTurns sc m'.core → Declares sc m'.core
+  still_declares d = record {
+    head = st.declares.head ∙ ap as_head (sym leaves.head);
+    track_levels = d.track_levels;
+    track_sizes = st.declares.track_sizes ∙ (λ i. map size_of_port (take (sym leaves.head i).tracks (sym leaves.tracks i)));
+    channel_levels = d.channel_levels;
+    channel_sizes = d.channel_sizes;
+  }
+
+  pub runs_stands : Runs sc (behind_thread sc) table m.script m.samples (changing m') s' → CodedRun k s' → StandsFor kind k m' sc s'
   runs_stands r coded =
       let v = r.views in
       let c = m'.core in
       let same : s'.threads ≡ r.ts = ap (λ (x : State). x.threads) r.is in
-      let count : length sc.codes ≡ c.head.threads = ap (λ h. h.threads) v.declares.head in
+      let count : length sc.codes ≡ c.head.threads = ap (λ h. h.threads) (still_declares v.declares).head in
       let kinds : (p : Place) → (step_at_place table p.at).kind ≡ kind_of (frame_at (script_frames sc) p.at) = λ p. reads_kind (head_of sc) m.script p.at (step_at_place table p.at) (script_frames sc) p.at (tabled.here p.at) in
       let views : (i : ℕ) → i < length sc.codes → ThreadView (head_of_core c) (script_frames sc) (behind_thread sc i) table m'.marks i (get_or c.threads i nil_place) (get_or s'.threads i ended) =
       λ i lt. subst (λ (ts : List Thread). ThreadView (head_of_core c) (script_frames sc) (behind_thread sc i) table m'.marks i (get_or c.threads i nil_place) (get_or ts i ended)) (sym same) (v.threads i (omega arith)) in
@@ -207,7 +233,7 @@ module _ (kind : ℕ) (k : Levels) (m m' : Memory) (sc : Script) (s s' : State) 
       record {
         valid = st.valid;
         holds = subst (λ (slab : List ℕ). Holds kind k slab (script_frames sc)) (sym script-is) st.holds;
-        declares = v.declares;
+        declares = still_declares v.declares;
         long = record {
           samples = omega (arith, samples_held, ap length samples_are);
           entries = omega (arith, entries_held);
@@ -232,17 +258,15 @@ module _ (kind : ℕ) (k : Levels) (m m' : Memory) (sc : Script) (s s' : State) 
       }
 
   -- What a run keeps.
-  pub runs_keeps : Keeps m.core → Runs sc table m.script m.samples (changing m') s' → Keeps m'.core
+  pub runs_keeps : Keeps m.core → Runs sc (behind_thread sc) table m.script m.samples (changing m') s' → Keeps m'.core
   runs_keeps keeps r =
       let c = m.core in
       let c' = m'.core in
       let head = leaves.head in
-      let few = keeps.few in
       let laid : Laid c'.channels c'.head.channels = λ h lt.
       let g = leaves.ports h in
       g.start ∙ keeps.channels h (omega (arith, ap (λ x. x.channels) head)) ∙ sym (room_same c.channels c'.channels h (λ j. (leaves.ports j).size)) in
       record {
-        few = subst (λ h. (h.threads ≤ 8) × (h.variables ≤ 64) × (h.tracks ≤ 8) × (h.channels ≤ 8)) (sym head) few;
         small = (omega (arith, samples_held, keeps.small.0), omega (arith, entries_held, keeps.small.1), r.views.turns);
         tracks = subst (λ (ps : List Port). Laid ps c'.head.tracks) (sym leaves.tracks) (λ h lt. keeps.tracks h (omega (arith, ap (λ x. x.tracks) head)));
         fed = subst (λ (ps : List Port). Held ps c'.head.tracks) (sym leaves.tracks) (λ h lt. keeps.fed h (omega (arith, ap (λ x. x.tracks) head)));
@@ -276,18 +300,6 @@ module _ (k : Levels) (sc : Script) (lawful : Lawful k) (codes : Levelled k sc) 
       go : (b : Bool) (later : ℕ × State × S) → CodedRun k later.1 → CodedRun k (cond {A = ℕ × State × S} b (0, s, g) (suc later.0, later.1, later.2)).1
       go true later x = h
       go false later x = x
-
--- No more turns are given than were asked for.
-pub at_most : (r : Rules) {S : Type 0} (schedule : Meaning S) (n : ℕ) (s : State) (g : S) → (advance r schedule n s g).0 ≤ n
-at_most r schedule zero s g = omega arith
-at_most r {S} schedule (suc n) s g =
-    let told = schedule g (ready_set r s) in
-    let next = take_turn r s told.0 in
-    go (all_finished r s || eqb s.turns most_turns) (advance r schedule n next told.1) (at_most r schedule n next told.1)
-  where
-    go : (b : Bool) (later : ℕ × State × S) → later.0 ≤ n → (cond {A = ℕ × State × S} b (0, s, g) (suc later.0, later.1, later.2)).0 ≤ suc n
-    go true later x = omega arith
-    go false later x = omega arith
 
 -- Memory stands for one state only
 

@@ -66,7 +66,7 @@ one_fed q = record { level = q.level; start = q.start; size = q.size; count = q.
 
 -- A run with one sample more on track t.
 abbrev pub fed_core : Core → ℕ → Core
-fed_core c t = record { head = c.head; cells = c.cells; threads = c.threads; tracks = slice_set c.tracks t (one_fed (slice_index_or c.tracks t nil_port)); channels = c.channels; turns = c.turns }
+fed_core c t = record { head = c.head; cells = c.cells; threads = c.threads; tracks = slice_set c.tracks t (one_fed (slice_index_or c.tracks t nil_port)); channels = c.channels; turns = c.turns; few = c.few }
 
 -- The samples with one more on track t.
 abbrev pub fed_samples : Core → ℕ → ℤ → List ℤ → List ℤ

@@ -1,5 +1,5 @@
 -- What a call finds out of its slabs before it acts: whether they hold a state of the run.
-use Rattle.std.specs.Prelude.{◌≡◌, ℕ, Bool, ◌&&◌, List, length, take, ◌==◌, nat_le, slice_index_or}
+use Rattle.std.specs.Prelude.{ℕ, Bool, ◌&&◌, List, ◌==◌, nat_le, slice_index_or}
 use Rattle.lattice.specs.Levels.{Levels}
 use Rattle.codec.specs.declared.frames.Head.{Head}
 use Rattle.script.specs.Code.{Script}
@@ -41,10 +41,9 @@ is_long_enough c samples entries marks = nat_le (samples_needed c) samples && (n
 abbrev pub HasNoState : ℕ → Levels → Memory → Type 0
 HasNoState kind k m = (sc : Script) (s : State) → StandsFor kind k m sc s → ⊥
 
--- Memory stands for a state of a script of n frames, whose steps are the first n of the table.
-pub record SomeState (kind : ℕ) (k : Levels) (m : Memory) (table : List Step) (n : ℕ) : Type 0 where
+-- Memory stands for a state of a script, whose steps these are.
+pub record SomeState (kind : ℕ) (k : Levels) (m : Memory) (table : List Step) : Type 0 where
   pub script : Script
   pub state : State
   pub stands : StandsFor kind k m script state
-  pub frames : n ≡ length (script_frames script)
-  pub tabled : Tabled (head_of script) m.script (take n table) (script_frames script)
+  pub tabled : Tabled (head_of script) m.script table (script_frames script)

@@ -13,7 +13,7 @@ use Rattle.runs.specs.declared.Mark.{Mark}
 use Rattle.runs.specs.declared.Pace.{Pace}
 use Rattle.runs.specs.declared.Pace.TheVariants.{Running, Idling, Finished}
 use Rattle.runs.specs.declared.Core.{Core}
-use Rattle.runs.specs.Flat.{nil_mark, nil_cell, nil_place, level_inside}
+use Rattle.runs.specs.Flat.{nil_mark, nil_place, level_inside}
 use Rattle.runs.specs.Memory.{account, end_fits}
 use Rattle.runs.specs.Turns.{all_first}
 
@@ -91,13 +91,9 @@ pace_suits Finished kd = thread_end_kind kd
 abbrev pub end_right : List Frame → Core → ℕ → Bool
 end_right fs c i = let p = get_or c.threads i nil_place in end_fits (frame_at fs p.at) p.pace
 
--- The level of a variable is a code of the kind.
-abbrev pub level_coded : Levels → Core → ℕ → Bool
-level_coded k c x = k.has (get_or c.cells x nil_cell).level
-
 -- r is what f answers of the frames, of every valid script that has this table.
-abbrev pub OfScript : ℕ → Levels → List Step → (List Frame → Bool) → Bool → Type 0
-OfScript kind k table f r = (sc : Script) (h : Head) (code : List ℕ) → ValidScript kind k sc → Tabled h code table (script_frames sc) → r ≡ f (script_frames sc)
+pub record OfScript (kind : ℕ) (k : Levels) (table : List Step) (f : List Frame → Bool) (r : Bool) : Type 0 where
+  pub told : (sc : Script) (h : Head) (code : List ℕ) → ValidScript kind k sc → Tabled h code table (script_frames sc) → r ≡ f (script_frames sc)
 
 -- What memory says of thread i fits the frames.
 abbrev pub thread_right : Levels → Core → List Mark → ℕ → List Frame → Bool
@@ -107,16 +103,11 @@ thread_right k c ms i fs = thread_fits k fs i (account c ms i) && end_right fs c
 abbrev pub threads_right : Levels → Core → List Mark → ℕ → List Frame → Bool
 threads_right k c ms n fs = all_fit k fs (account c ms) n && all_first (end_right fs c) n
 
--- What it says of all threads does, and every level is a code of the kind.
-abbrev pub memory_right : Levels → Core → List Mark → List Frame → Bool
-memory_right k c ms fs = all_fit k fs (account c ms) c.head.threads && (all_first (end_right fs c) c.head.threads && all_first (level_coded k c) c.head.variables)
-
 -- The answer says whether memory fits the script, whichever has this table.
 abbrev pub TellsFit : ℕ → Levels → List Step → Core → List Mark → Bool → Type 0
-TellsFit kind k table c ms r = OfScript kind k table (memory_right k c ms) r
+TellsFit kind k table c ms r = OfScript kind k table (threads_right k c ms c.head.threads) r
 
 -- Memory fits a script's frames.
 pub record FitsFrames (k : Levels) (fs : List Frame) (c : Core) (ms : List Mark) : Type 0 where
   pub accounts : T (all_fit k fs (account c ms) c.head.threads)
   pub ends : (i : ℕ) → i < c.head.threads → T (end_right fs c i)
-  pub coded : (x : ℕ) → x < c.head.variables → T (level_coded k c x)

@@ -169,15 +169,15 @@ arrived table p d = record { at = p; depth = d; pace = pace_at (step_at_place ta
 
 -- A run with one thread elsewhere.
 abbrev pub with_place : Core → ℕ → Place → Core
-with_place c i p = record { head = c.head; cells = c.cells; threads = slice_set c.threads i p; tracks = c.tracks; channels = c.channels; turns = c.turns }
+with_place c i p = record { head = c.head; cells = c.cells; threads = slice_set c.threads i p; tracks = c.tracks; channels = c.channels; turns = c.turns; few = c.few }
 
 -- A run with other cells.
 abbrev pub with_cells : Core → List Cell → Core
-with_cells c cs = record { head = c.head; cells = cs; threads = c.threads; tracks = c.tracks; channels = c.channels; turns = c.turns }
+with_cells c cs = record { head = c.head; cells = cs; threads = c.threads; tracks = c.tracks; channels = c.channels; turns = c.turns; few = c.few }
 
 -- A run with other channels.
 abbrev pub with_channels : Core → List Port → Core
-with_channels c ps = record { head = c.head; cells = c.cells; threads = c.threads; tracks = c.tracks; channels = ps; turns = c.turns }
+with_channels c ps = record { head = c.head; cells = c.cells; threads = c.threads; tracks = c.tracks; channels = ps; turns = c.turns; few = c.few }
 
 -- A cell whose bit the mask has is joined with the level.
 abbrev pub raised_cell : Levels → ℕ → ℕ → ℕ → Cell → Cell
@@ -325,8 +325,8 @@ module _ (k : Levels) (table : List Step) (code : List ℕ) (ss : List ℤ) (i :
   after_turn x = let p = get_or x.core.threads i nil_place in let st = step_at_place table p.at in stepped p.pace st.kind x p st
 
 -- Thread i at its turn.
-abbrev pub turn_at : Core → List Step → ℕ → Turn
-turn_at c table i = let p = get_or c.threads i nil_place in record { thread = i; place = p; step = step_at_place table p.at }
+abbrev pub turn_at : Core → List Step → (i : ℕ) → i < 8 → Turn
+turn_at c table i few = let p = get_or c.threads i nil_place in record { thread = i; place = p; step = step_at_place table p.at; few = few }
 
 -- What the memory must be for a turn to be safe
 
@@ -366,10 +366,6 @@ pub record Part (q : Port) (turns : ℕ) (es : List Entry) : Type 0 where
 
 -- All threads stand in the table, and so do the blocks that they are inside.
 pub record Sized (c : Core) (table : List Step) (ms : List Mark) : Type 0 where
-  pub few : c.head.threads ≤ 8
-  pub variables : c.head.variables ≤ 64
-  pub tracks : c.head.tracks ≤ 8
-  pub channels : c.head.channels ≤ 8
   pub turns : c.turns ≤ 1000000
   pub short : length table ≤ 512
   pub room : 128 ≤ length ms

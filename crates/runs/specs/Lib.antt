@@ -1,12 +1,15 @@
+pub mod Headers
 pub mod Operations
 pub mod Verdicts
 pub mod Flat
+pub mod Blocks
 pub mod Kept
 pub mod Zeros
 pub mod Views
 pub mod Leaves
 pub mod Statuses
 pub mod Turns
+pub mod Running
 pub mod Memory
 pub mod Declaring
 pub mod Starting

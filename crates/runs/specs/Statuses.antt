@@ -26,20 +26,23 @@ status_of Finished = finished
 status_of Waiting = waiting
 status_of Barred = barred
 
+-- The locks that a block reserves, by its step and the levels outside and inside it.
+abbrev pub reserved_one : Step → ℕ → ℕ → ℕ
+reserved_one st outside inside = cond (is_open outside && not (is_open inside)) st.needed 0
+
 module _ (table : List Step) (ms : List Mark) where
-  -- The locks of the first d blocks from b on.
-  unfoldable pub owned_marks : ℕ → ℕ → ℕ
-  owned_marks b zero = 0
-  owned_marks b (suc d) = bit_or (step_at_place table (get_or ms (b + d) nil_mark).opener).mask (owned_marks b d)
+  -- The locks that the first d blocks from b on give together, each of them f of its step and the levels outside and inside it.
+  unfoldable pub locks_of : (Step → ℕ → ℕ → ℕ) → ℕ → ℕ → ℕ
+  locks_of f b zero = 0
+  locks_of f b (suc d) = let mk = get_or ms (b + d) nil_mark in bit_or (f (step_at_place table mk.opener) (level_inside ms b d) mk.level) (locks_of f b d)
 
-  -- What the block at d reserves.
-  abbrev pub reserved_one : ℕ → ℕ → ℕ
-  reserved_one b d = let mk = get_or ms (b + d) nil_mark in cond (is_open (level_inside ms b d) && not (is_open mk.level)) (step_at_place table mk.opener).needed 0
+  -- Their own locks.
+  abbrev pub owned_marks : ℕ → ℕ → ℕ
+  owned_marks b d = locks_of (λ st outside inside. st.mask) b d
 
-  -- The locks that the first d blocks from b on reserve.
-  unfoldable pub reserved_marks : ℕ → ℕ → ℕ
-  reserved_marks b zero = 0
-  reserved_marks b (suc d) = bit_or (reserved_one b d) (reserved_marks b d)
+  -- The locks that they reserve.
+  abbrev pub reserved_marks : ℕ → ℕ → ℕ
+  reserved_marks b d = locks_of reserved_one b d
 
   -- What thread j holds against thread i.
   abbrev pub held_one : ℕ → ℕ → Place → ℕ

@@ -1,6 +1,7 @@
 -- Which threads are ready, and what turns do.
 use Rattle.std.specs.Prelude.{◌≡◌, ℕ, zero, suc, ◌<◌, Bool, true, false, ◌&&◌, List, get_or, ℤ, Some, None, Option, slice_index_or}
 use Rattle.lattice.specs.Levels.{Levels}
+use Rattle.codec.specs.Frames.{Frame}
 use Rattle.script.specs.Code.{Script}
 use Rattle.model.specs.Machine.{State, status_is_ready, status_is_finished, rules, ready_set, take_turn, advance}
 use Rattle.scheduler.specs.Turns.{Meaning}
@@ -36,12 +37,12 @@ abbrev pub over_first : Levels → List Step → List ℕ → List ℤ → Core 
 over_first k table code ss c ms n = all_first (λ j. status_is_finished (status_now k table code ss j c ms)) n
 
 -- A turn as the model gives it, to the state and to the scheduler.
-pub record Turned {G : Type 0} (k : Levels) (schedule : Meaning G) (table : List Step) (code : List ℕ) (ss : List ℤ) (x y : Mem) (g h : G) (sc : Script) (s : State) : Type 0 where
-  pub runs : Runs sc table code ss y (take_turn (rules k sc) s (schedule g (ready_set (rules k sc) s)).0)
+pub record Turned {G : Type 0} (k : Levels) (schedule : Meaning G) (table : List Step) (code : List ℕ) (ss : List ℤ) (x y : Mem) (g h : G) (sc : Script) (after : ℕ → List Frame) (s : State) : Type 0 where
+  pub runs : Runs sc after table code ss y (take_turn (rules k sc) s (schedule g (ready_set (rules k sc) s)).0)
   pub scheduler : h ≡ (schedule g (ready_set (rules k sc) s)).1
 
 -- n turns or fewer: how many, and what then stands.
-pub record Advanced {G : Type 0} (k : Levels) (schedule : Meaning G) (table : List Step) (code : List ℕ) (ss : List ℤ) (n r : ℕ) (y : Mem) (g h : G) (sc : Script) (s : State) : Type 0 where
+pub record Advanced {G : Type 0} (k : Levels) (schedule : Meaning G) (table : List Step) (code : List ℕ) (ss : List ℤ) (n r : ℕ) (y : Mem) (g h : G) (sc : Script) (after : ℕ → List Frame) (s : State) : Type 0 where
   pub answer : r ≡ (advance (rules k sc) schedule n s g).0
-  pub runs : Runs sc table code ss y (advance (rules k sc) schedule n s g).1
+  pub runs : Runs sc after table code ss y (advance (rules k sc) schedule n s g).1
   pub scheduler : h ≡ (advance (rules k sc) schedule n s g).2

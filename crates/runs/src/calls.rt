@@ -3,6 +3,7 @@ ghost use Rattle.std.specs.Prelude.{◌≡◌, ℕ, ◌<◌, ◌≤◌, length, 
 ghost use Rattle.script.specs.Code.{Script};
 ghost use Rattle.model.specs.Machine.{State};
 ghost use Rattle.runs.specs.Calls.{Advances, Closes, Counts, Feeds, Finds, Made, NotMade};
+ghost use Rattle.runs.specs.Kept.{NoPort, PortIn, Small, room};
 ghost use Rattle.runs.specs.Memory.{memory};
 ghost use Rattle.runs.specs.Zeros.{AllZero};
 
@@ -11,7 +12,7 @@ use crate::finding::room_of;
 use crate::run::Run;
 use crate::starting::beginning;
 use crate::wiping::Cleared;
-use crate::{Core, Count, Entry, MARKS, MOST_TURNS, Mark, WORK};
+use crate::{Core, Count, Entry, Inputs, MOST_TURNS, Mark, Port, WORK};
 use lattice::Lattice;
 use scheduler::Scheduler;
 use script::faults::RunFault;
@@ -19,6 +20,42 @@ use script::{Accepted, FRAMES};
 use std::marker::PhantomData;
 use survey::Step;
 
+// Track or channel h, of n whose parts lie in a slab of so many slots: NoState where the slab is too short for their parts, NoSuch where
+// there is none.
+fn port_in(ports: [Port; 8], n: u8, slots: usize, h: u8) -> Result<Port, RunFault>
+    requires few { n ≤ 8 }
+    requires small { room ports n ≤ 2048 }
+    ensures { MatchResult result (PortIn ports n slots h) (NoPort ports n slots h) }
+{
+    if slots < room_of(ports, n) {
+        return Err(RunFault::NoState);
+    }
+    if h >= n {
+        return Err(RunFault::NoSuch);
+    }
+    Ok(ports[h as usize])
+}
+
+// That the parts are small is a clause and no ghost field of Core: a turn writes channels, and each such step would prove the sums again.
+impl Core {
+    // Track h, where the slab of samples has so many slots.
+    fn track(&self, h: u8, slots: usize) -> Result<Port, RunFault>
+        requires { Small self.now }
+        ensures { MatchResult result (PortIn self.now.tracks self.now.head.tracks slots h) (NoPort self.now.tracks self.now.head.tracks slots h) }
+    {
+        port_in(self.tracks, self.head.tracks, slots, h)
+    }
+
+    // Channel h, where the slab of entries does.
+    fn channel(&self, h: u8, slots: usize) -> Result<Port, RunFault>
+        requires { Small self.now }
+        ensures { MatchResult result (PortIn self.now.channels self.now.head.channels slots h) (NoPort self.now.channels self.now.head.channels slots h) }
+    {
+        port_in(self.channels, self.head.channels, slots, h)
+    }
+}
+
+// Each call is lent the slabs that it needs and no more, so they are parameters and no struct.
 impl<K: Lattice, S: Scheduler + Drop> Run<K, S> {
     // A run of the script that the slab holds now; only what reading returned lets one be made. Samples, entries and open blocks are zero then.
     pub fn make(
@@ -31,9 +68,7 @@ impl<K: Lattice, S: Scheduler + Drop> Run<K, S> {
     ) -> Result<Run<K, S>, RunFault>
         ensures { MatchResult result (λ run. Made K.kind K.order script.now samples.old samples.new entries.old entries.new marks.old marks.new scheduler run.core run.scheduler) (NotMade K.kind K.order script.now samples.old samples.new entries.old entries.new marks.old marks.new) }
     {
-        let Some(declared) = declarations::<K>(script) else {
-            return Err(RunFault::NoState);
-        };
+        let declared = declarations::<K>(script).ok_or(RunFault::NoState)?;
         let core = beginning::<K>(script, declared);
         if !core.long_enough(samples.len(), entries.len(), marks.len()) {
             return Err(RunFault::NoState);
@@ -52,13 +87,7 @@ impl<K: Lattice, S: Scheduler + Drop> Run<K, S> {
     pub fn feed(&mut self, track: u8, sample: i32, samples: &mut [i32]) -> Result<u16, RunFault>
         ensures { Feeds K.kind K.order S.meaning track sample self.old.core self.old.scheduler samples.old self.new.core self.new.scheduler samples.new result }
     {
-        if samples.len() < room_of(self.core.tracks, self.core.head.tracks) {
-            return Err(RunFault::NoState);
-        }
-        if track >= self.core.head.tracks {
-            return Err(RunFault::NoSuch);
-        }
-        let port = self.core.tracks[track as usize];
+        let port = self.core.track(track, samples.len())?;
         if port.count >= port.size {
             return Err(RunFault::TrackFull);
         }
@@ -71,13 +100,7 @@ impl<K: Lattice, S: Scheduler + Drop> Run<K, S> {
     pub fn count(&self, channel: u8, entries: &[Entry]) -> Result<Count, RunFault>
         ensures { Counts K.kind K.order S.meaning channel self.now.core self.now.scheduler entries.now result }
     {
-        if entries.len() < room_of(self.core.channels, self.core.head.channels) {
-            return Err(RunFault::NoState);
-        }
-        if channel >= self.core.head.channels {
-            return Err(RunFault::NoSuch);
-        }
-        let port = self.core.channels[channel as usize];
+        let port = self.core.channel(channel, entries.len())?;
         Ok(Count {
             entries: port.count as u16,
             missed: port.missed,
@@ -88,13 +111,7 @@ impl<K: Lattice, S: Scheduler + Drop> Run<K, S> {
     pub fn entry(&self, channel: u8, index: u16, entries: &[Entry]) -> Result<Entry, RunFault>
         ensures { Finds K.kind K.order S.meaning channel index self.now.core self.now.scheduler entries.now result }
     {
-        if entries.len() < room_of(self.core.channels, self.core.head.channels) {
-            return Err(RunFault::NoState);
-        }
-        if channel >= self.core.head.channels {
-            return Err(RunFault::NoSuch);
-        }
-        let port = self.core.channels[channel as usize];
+        let port = self.core.channel(channel, entries.len())?;
         if index as usize >= port.count {
             return Err(RunFault::NoSuch);
         }
@@ -130,26 +147,25 @@ impl<K: Lattice, S: Scheduler + Drop> Run<K, S> {
     ) -> Result<u16, RunFault>
         ensures { Advances K.kind K.order S.meaning turns (memory self.old.core script.now samples.now entries.old marks.old) self.old.scheduler (length work.old) (memory self.new.core script.now samples.now entries.new marks.new) self.new.scheduler result }
     {
-        if work.len() < WORK {
-            return Err(RunFault::NoState);
-        }
+        let work = work.first_chunk_mut::<WORK>().ok_or(RunFault::NoState)?;
         let mut table = [Step::none(); FRAMES as usize];
-        let Some(frames) = self
+        let steps = self
             .core
             .state_in::<K>(script, samples, entries, marks, &mut table)
-        else {
-            return Err(RunFault::NoState);
-        };
+            .ok_or(RunFault::NoState)?;
         if self.core.turns == MOST_TURNS {
             return Err(RunFault::OutOfTurns);
         }
+        let inputs = Inputs {
+            table: steps,
+            code: script,
+            samples,
+        };
         let given = self.core.advance::<K, S>(
             &mut self.scheduler,
-            turns as u32,
-            &table[0..frames],
-            script,
+            u32::from(turns),
+            inputs,
             marks,
-            samples,
             entries,
             work,
         );

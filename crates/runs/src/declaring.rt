@@ -8,7 +8,8 @@ use codec::frames::{Frame, Head};
 use lattice::Lattice;
 use script::{frame_at, holds};
 
-// The header of a script, its tracks and channels with nothing in them, and how many frames it has.
+// The header of a script, its tracks and channels with nothing in them, and how many frames it has. There is no heap, so the arrays
+// have room for as many as a script may declare, and the header says how many it does.
 #[derive(Clone, Copy)]
 pub(crate) struct Declared {
     pub head: Head,
@@ -30,22 +31,15 @@ fn empty_port(level: u32, size: u16, start: usize) -> Port
     }
 }
 
-// The track or channel that a frame declares.
+// The track or channel that a frame declares. Any other gets an empty part, and no None: in a script that was found none stands there.
 fn port_of(frame: Frame<'_>, start: usize) -> Port
     ensures port { result ≡ declared_port (read_of frame.entry).frame start }
     ensures small { result.size ≤ 65535 }
 {
     match frame {
-        Frame::Track {
-            level,
-            capacity,
-            ..
-        } => empty_port(level, capacity, start),
-        Frame::Channel {
-            level,
-            capacity,
-            ..
-        } => empty_port(level, capacity, start),
+        Frame::Track(store) | Frame::Channel(store) => {
+            empty_port(store.level, store.capacity, start)
+        }
         _ => empty_port(0, 0, start),
     }
 }
@@ -55,10 +49,7 @@ fn port_at(script: &[u8], place: u16, start: usize) -> Port
     ensures port { PortAt script.now place start result }
     ensures small { result.size ≤ 65535 }
 {
-    match frame_at(script, place) {
-        Some(frame) => port_of(frame, start),
-        None => empty_port(0, 0, start),
-    }
+    frame_at(script, place).map_or(empty_port(0, 0, start), |frame| port_of(frame, start))
 }
 
 // The n tracks or channels that are declared from a place on, the part of each behind the parts before it.
@@ -68,9 +59,9 @@ fn ports(script: &[u8], first: u16, n: u8) -> [Port; 8]
 {
     let mut all = [empty_port(0, 0, 0); 8];
     let mut start = 0;
-    for h in 0..n {
-        let port = port_at(script, first + h as u16, start);
-        all[h as usize] = port;
+    let declared = &mut all[..n as usize];
+    for (h, port) in declared.iter_mut().enumerate() {
+        *port = port_at(script, first + h as u16, start);
         start += port.size;
     }
     all
@@ -80,13 +71,11 @@ fn ports(script: &[u8], first: u16, n: u8) -> [Port; 8]
 pub(crate) fn declarations<K: Lattice>(script: &[u8]) -> Option<Declared>
     ensures { MatchOption result (DeclaresNone K.kind K.order script.now) (DeclaresAs K.kind K.order script.now) }
 {
-    match holds::<K>(script) {
-        Some(found) => Some(Declared {
-            head: found.head,
-            tracks: ports(script, 1, found.head.tracks),
-            channels: ports(script, 1 + found.head.tracks as u16, found.head.channels),
-            frames: found.frames,
-        }),
-        None => None,
-    }
+    let found = holds::<K>(script)?;
+    Some(Declared {
+        head: found.head,
+        tracks: ports(script, 1, found.head.tracks),
+        channels: ports(script, 1 + found.head.tracks as u16, found.head.channels),
+        frames: found.frames,
+    })
 }

@@ -1,8 +1,9 @@
 // The monitor: runs of scripts over lent memory, and the calls on them.
+// Numbers widen by `as` at an index, where a call of `from` would say no more.
 #![tactic(auto)]
 
-ghost use Rattle.std.specs.Prelude.{◌≡◌};
-ghost use Rattle.runs.specs.Flat.{nil_entry, nil_mark};
+ghost use Rattle.std.specs.Prelude.{◌≡◌, ◌<◌, ◌≤◌, length};
+ghost use Rattle.runs.specs.Headers.{Few};
 
 pub use crate::run::Run;
 use codec::frames::Head;
@@ -23,7 +24,8 @@ mod values;
 mod verdicts;
 mod wiping;
 
-// The open blocks of eight threads, sixteen each: what a slab of them holds at least.
+// The open blocks of eight threads, sixteen each: what a slab of them holds at least. A slab may be lent longer, and what an advance
+// promises speaks of all of it, so it is not cut to an array of this length, and the functions within say that it is as long.
 pub const MARKS: usize = 128;
 
 // The working numbers of an expression: what the work slab holds at least.
@@ -40,15 +42,17 @@ pub(crate) struct Cell {
 }
 
 // A thread runs, idles at the end of a way for so many turns more, or is finished.
-#[derive(Clone, Copy)]
+#[derive(Clone, Copy, Default)]
 pub(crate) enum Pace {
+    #[default]
     Running,
     Idling(u16),
     Finished,
 }
 
-// Where a thread stands: its next frame, how many blocks it is inside, and its pace.
-#[derive(Clone, Copy)]
+// Where a thread stands: its next frame, how many blocks it is inside, and its pace. No ghost field bounds the depth: the specifications
+// write places down field by field, and each would have to carry a proof.
+#[derive(Clone, Copy, Default)]
 pub(crate) struct Place {
     pub at: u16,
     pub depth: u8,
@@ -56,7 +60,7 @@ pub(crate) struct Place {
 }
 
 // Whether a thread may be given a turn.
-#[derive(Clone, Copy)]
+#[derive(Clone, Copy, PartialEq)]
 pub(crate) enum Status {
     Ready,
     Finished,
@@ -64,7 +68,8 @@ pub(crate) enum Status {
     Barred,
 }
 
-// Which threads are ready, and whether all are finished.
+// Which threads are ready, and whether all are finished. There is no heap, so the answers are eight: those of the threads that
+// the header declares come first.
 #[derive(Clone, Copy)]
 pub(crate) struct Survey {
     ready: [bool; 8],
@@ -72,26 +77,26 @@ pub(crate) struct Survey {
 }
 
 // An open block: where it began, and the context level inside it.
-#[derive(Clone, Copy)]
+#[derive(Clone, Copy, Default)]
 pub struct Mark {
     pub(crate) opener: u16,
     pub(crate) level: u32,
 }
 
 impl Mark {
+    ghost use Rattle.runs.specs.Flat.{nil_mark};
+
     // No open block.
     pub fn none() -> Mark
         ensures { result ≡ nil_mark }
     {
-        Mark {
-            opener: 0,
-            level: 0,
-        }
+        Mark::default()
     }
 }
 
-// What a put leaves on a channel: the turn, from 1, the thread, and a value, or a mark in its place with value 0.
-#[derive(Clone, Copy, Debug, PartialEq)]
+// What a put leaves on a channel: the turn, from 1, the thread, and a value, or a mark in its place with value 0. The machine's entry
+// has both fields, and so has this one.
+#[derive(Clone, Copy, Debug, Default, PartialEq)]
 pub struct Entry {
     pub turn: u32,
     pub thread: u8,
@@ -100,16 +105,13 @@ pub struct Entry {
 }
 
 impl Entry {
+    ghost use Rattle.runs.specs.Flat.{nil_entry};
+
     // No entry yet.
     pub fn none() -> Entry
         ensures { result ≡ nil_entry }
     {
-        Entry {
-            turn: 0,
-            thread: 0,
-            mark: false,
-            value: 0,
-        }
+        Entry::default()
     }
 }
 
@@ -123,12 +125,13 @@ pub struct Count {
 // A thread at its turn: its number, where it stands, and the step there.
 #[derive(Clone, Copy)]
 pub(crate) struct Turn {
-    thread: usize,
+    thread: u8,
     place: Place,
     step: Step,
+    ghost few: { thread < 8 },
 }
 
-// A track or a channel, and its part of the lent memory.
+// A track or a channel, and its part of the lent memory, by numbers: a slice in its place would be lent as long as the run lasts.
 #[derive(Clone, Copy)]
 pub(crate) struct Port {
     pub level: u32,
@@ -138,7 +141,7 @@ pub(crate) struct Port {
     pub missed: u32,
 }
 
-// A run but for its scheduler.
+// A run but for its scheduler. Its header declares no more than the arrays hold, which are arrays since there is no heap.
 #[derive(Drop)]
 pub(crate) struct Core {
     pub head: Head,
@@ -147,4 +150,16 @@ pub(crate) struct Core {
     pub tracks: [Port; 8],
     pub channels: [Port; 8],
     pub turns: u32,
+    ghost few: { Few head },
+}
+
+// What turns read and never change: the steps and the bytes of the script, and the samples. What they change is lent beside it, slab
+// by slab. One struct of `&mut`s was tried: that a slab which is read while another is written stays as it was is then left open.
+// `TrackParts`, `Sized` and `RunningOn` tie a run to these and to the slabs, several objects that no one struct has, so they are clauses.
+#[derive(Clone, Copy)]
+pub(crate) struct Inputs<'a> {
+    pub table: &'a [Step],
+    pub code: &'a [u8],
+    pub samples: &'a [i32],
+    ghost short: { length table.now ≤ 512 },
 }

@@ -1,5 +1,5 @@
 // A run of a script.
-ghost use Rattle.runs.specs.Kept.{Few, Held, Laid, Missed, Small, Whole};
+ghost use Rattle.runs.specs.Kept.{CodedLevels, Held, Laid, Missed, Small};
 
 use crate::Core;
 use lattice::Lattice;
@@ -11,12 +11,11 @@ pub struct Run<K: Lattice, S: Scheduler> {
     pub(crate) kind: PhantomData<K>,
     pub(crate) scheduler: S,
     pub(crate) core: Core,
-    ghost few: { Few core },
     ghost small: { Small core },
     ghost tracks: { Laid core.tracks core.head.tracks },
     ghost fed: { Held core.tracks core.head.tracks },
     ghost channels: { Laid core.channels core.head.channels },
     ghost put: { Held core.channels core.head.channels },
     ghost missed: { Missed core },
-    ghost whole: { Whole core },
+    ghost coded: { CodedLevels K.order core },
 }

@@ -1,7 +1,8 @@
 // A bounded stack over lent memory, of items of any kind: working numbers, open blocks.
-ghost use Rattle.std.specs.Prelude.{◌≡◌, ◌+◌, ◌-◌, ◌<◌, ◌≤◌, length, slice_index_or, slice_set};
+ghost use Rattle.std.specs.Prelude.{◌≡◌, ℕ, ◌+◌, ◌-◌, ◌<◌, ◌≤◌, length, slice_index_or, slice_set};
 
-// The slot of its first item, and how many items it holds, 16 at most; the last of them is its top.
+// The slot of its first item, and how many items it holds, 16 at most; the last of them is its top. The slots are lent, since there
+// is no heap, so it is two numbers and takes them at each call.
 #[derive(Clone, Copy)]
 pub(crate) struct Stack {
     pub base: usize,
@@ -17,8 +18,8 @@ impl Stack {
     {
         slots[self.base + self.held] = item;
         Stack {
-            base: self.base,
             held: self.held + 1,
+            ..self
         }
     }
 
@@ -28,8 +29,8 @@ impl Stack {
         ensures { result ≡ record { base = self.base; held = self.held - n } }
     {
         Stack {
-            base: self.base,
             held: self.held - n,
+            ..self
         }
     }
 
@@ -39,5 +40,14 @@ impl Stack {
         ensures { (d : T) → result ≡ slice_index_or slots.now (self.base + (self.held - n)) d }
     {
         slots[self.base + (self.held - n)]
+    }
+
+    // All of them, the topmost last.
+    pub(crate) fn items<T>(self, slots: &[T]) -> &[T]
+        requires { self.base + self.held ≤ length slots.now }
+        ensures long { length result.now ≡ self.held }
+        ensures by_index { (i : ℕ) (d : T) → i < self.held → slice_index_or result.now i d ≡ slice_index_or slots.now (self.base + i) d }
+    {
+        &slots[self.base..self.base + self.held]
     }
 }

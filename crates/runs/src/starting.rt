@@ -14,37 +14,27 @@ use script::{FRAMES, frame_at};
 use survey::stretch_at;
 
 // At the first frame, running.
-fn nowhere() -> Place
+fn at_first_frame() -> Place
     ensures { result ≡ nil_place }
 {
-    Place {
-        at: 0,
-        depth: 0,
-        pace: Pace::Running,
-    }
+    Place::default()
 }
 
 // Whether a frame ends a thread.
 fn is_end(frame: Frame<'_>) -> bool
     ensures { result ≡ is_thread_end (read_of frame.entry).frame }
 {
-    match frame {
-        Frame::ThreadEnd => true,
-        _ => false,
-    }
+    matches!(frame, Frame::ThreadEnd)
 }
 
 // Whether the frame at a place of the script does.
 fn ends_thread(script: &[u8], at: u16) -> bool
     ensures { EndsThread script.now at result }
 {
-    match frame_at(script, at) {
-        Some(frame) => is_end(frame),
-        None => false,
-    }
+    frame_at(script, at).is_some_and(is_end)
 }
 
-// A thread that comes to a place with no block open.
+// A thread that comes to a place with no block open. A turn's arrival decides so by the table of steps; here there is none yet.
 fn come_to(script: &[u8], at: u16) -> Place
     ensures { ComesTo script.now at result }
 {
@@ -72,10 +62,11 @@ fn places(script: &[u8], first: u16, n: u8) -> [Place; 8]
     requires { n ≤ 8 }
     ensures { PlacesAt script.now first n result }
 {
-    let mut all = [nowhere(); 8];
+    let mut all = [at_first_frame(); 8];
     let mut at = first;
-    for i in 0..n {
-        all[i as usize] = come_to(script, at);
+    let threads = &mut all[..n as usize];
+    for place in threads.iter_mut() {
+        *place = come_to(script, at);
         at = next_thread(script, at);
     }
     all

@@ -1,128 +1,109 @@
 // How each thread stands.
-ghost use Rattle.std.specs.Prelude.{◌≡◌, ◌<◌, ◌≤◌, length, slice_index_or};
+ghost use Rattle.std.specs.Prelude.{◌≡◌, ◌<◌, ◌≤◌, slice_index_or};
 ghost use Rattle.survey.specs.Table.{step_at_place};
 ghost use Rattle.runs.specs.Flat.{nil_place, Sized, SoundStep, FitNow, TrackParts};
 ghost use Rattle.model.specs.Machine.{chosen_status, status_is_ready as model_ready, status_is_finished as model_finished};
 ghost use Rattle.runs.specs.Statuses.{status_of, if_status, with_status, status_now};
 ghost use Rattle.runs.specs.Turns.{AllFit, ReadyList, over_first};
 
-use crate::blocks::{context_level, is_open};
-use crate::values::expression;
-use crate::{Core, Mark, Pace, Place, Status, Survey};
+use crate::blocks::is_open;
+use crate::{Core, Inputs, Mark, Pace, Status, Survey, Turn, WORK};
 use lattice::Lattice;
-use survey::{Kind, Step};
+use survey::Kind;
 
-// Barred is looked at first, then waiting.
-fn choose_status(barred: bool, waits: bool) -> Status
-    ensures { status_of result ≡ chosen_status barred waits }
-{
-    if barred {
-        Status::Barred
-    } else if waits {
-        Status::Waiting
-    } else {
-        Status::Ready
+impl Status {
+    // Barred is looked at first, then waiting.
+    fn chosen(barred: bool, waits: bool) -> Status
+        ensures { status_of result ≡ chosen_status barred waits }
+    {
+        if barred {
+            Status::Barred
+        } else if waits {
+            Status::Waiting
+        } else {
+            Status::Ready
+        }
     }
-}
 
-// Whether a thread that stands so is ready.
-fn is_ready(status: Status) -> bool
-    ensures { result ≡ model_ready (status_of status) }
-{
-    match status {
-        Status::Ready => true,
-        _ => false,
+    // Whether a thread that stands so is ready.
+    fn is_ready(self) -> bool
+        ensures { result ≡ model_ready (status_of self) }
+    {
+        self == Status::Ready
     }
-}
 
-// Whether it is finished.
-fn is_finished(status: Status) -> bool
-    ensures { result ≡ model_finished (status_of status) }
-{
-    match status {
-        Status::Finished => true,
-        _ => false,
+    // Whether it is finished.
+    fn is_finished(self) -> bool
+        ensures { result ≡ model_finished (status_of self) }
+    {
+        self == Status::Finished
     }
 }
 
 impl Core {
     // Whether a thread that stands at an if may be given a turn.
-    fn status_if<K: Lattice>(
-        &self,
-        i: u8,
-        p: Place,
-        st: Step,
-        table: &[Step],
-        code: &[u8],
-        marks: &[Mark],
-    ) -> Status
-        requires sized { Sized self.now table.now marks.now }
-        requires fit { (SoundStep self.now code.now st) × ((p.depth ≤ 16) × (i < 8)) }
-        ensures { status_of result ≡ if_status K.order table.now code.now i self.now marks.now p st }
+    fn status_if<K: Lattice>(&self, t: Turn, inputs: Inputs<'_>, marks: &[Mark]) -> Status
+        requires sized { Sized self.now inputs.table.now marks.now }
+        requires fit { (SoundStep self.now inputs.code.now t.step) × (t.place.depth ≤ 16) }
+        ensures { status_of result ≡ if_status K.order inputs.entry.table.now inputs.entry.code.now t.thread self.now marks.now t.place t.step }
     {
-        let here = context_level(marks, i as usize * 16, p.depth);
-        let level = K::join(here, self.level::<K>(expression(code, st)));
+        let here = t.context(marks);
+        let level = K::join(here, self.level::<K>(inputs.expression(t.step)));
         let closed = !is_open(level);
-        choose_status(
-            !st.fixed & closed,
-            is_open(here) & closed & (st.needed & self.against(i, table, marks) != 0),
+        Status::chosen(
+            !t.step.fixed & closed,
+            is_open(here)
+                & closed
+                & (t.step.needed & self.against(t.thread, inputs.table, marks) != 0),
         )
     }
 
-    // The same at a with.
+    // The same at a with, by its own locks and its value; what the two share is one expression.
     fn status_with<K: Lattice>(
         &self,
-        i: u8,
-        p: Place,
-        st: Step,
-        table: &[Step],
-        code: &[u8],
+        t: Turn,
+        inputs: Inputs<'_>,
         marks: &[Mark],
-        samples: &[i32],
-        work: &mut [i32],
+        work: &mut [i32; WORK],
     ) -> Status
-        requires sized { Sized self.now table.now marks.now }
-        requires fit { (SoundStep self.now code.now st) × ((p.depth ≤ 16) × ((i < 8) × (16 ≤ length work.old))) }
-        requires tracks { TrackParts self.now samples.now }
-        ensures { status_of result ≡ with_status K.order table.now code.now samples.now i self.now marks.now p st }
+        requires sized { Sized self.now inputs.table.now marks.now }
+        requires fit { (SoundStep self.now inputs.code.now t.step) × (t.place.depth ≤ 16) }
+        requires tracks { TrackParts self.now inputs.samples.now }
+        ensures { status_of result ≡ with_status K.order inputs.entry.table.now inputs.entry.code.now inputs.entry.samples.now t.thread self.now marks.now t.place t.step }
     {
-        let bytes = expression(code, st);
-        let zero = self.value(bytes, samples, work) == 0;
-        let here = context_level(marks, i as usize * 16, p.depth);
-        choose_status(
+        let bytes = inputs.expression(t.step);
+        let zero = self.value(bytes, inputs.samples, work) == 0;
+        let here = t.context(marks);
+        Status::chosen(
             !is_open(self.level::<K>(bytes)),
-            is_open(here) & (zero | (st.mask & self.against(i, table, marks) != 0)),
+            is_open(here)
+                & (zero | (t.step.mask & self.against(t.thread, inputs.table, marks) != 0)),
         )
     }
 
-    // Whether a turn may be given to thread i.
+    // Whether a turn may be given to thread i: one match over the pace and the kind together, as for the turn itself.
     fn status<K: Lattice>(
         &self,
         i: u8,
-        table: &[Step],
-        code: &[u8],
+        inputs: Inputs<'_>,
         marks: &[Mark],
-        samples: &[i32],
-        work: &mut [i32],
+        work: &mut [i32; WORK],
     ) -> Status
-        requires sized { (Sized self.now table.now marks.now) × ((i < self.now.head.threads) × (16 ≤ length work.old)) }
-        requires here { let p = slice_index_or self.now.threads i nil_place in let st = step_at_place table.now p.at in FitNow p.pace st.kind self.now table.now code.now p st }
-        requires tracks { TrackParts self.now samples.now }
-        ensures { status_of result ≡ status_now K.order table.now code.now samples.now i self.now marks.now }
+        requires sized { (Sized self.now inputs.table.now marks.now) × (i < self.now.head.threads) }
+        requires here { let p = slice_index_or self.now.threads i nil_place in let st = step_at_place inputs.table.now p.at in FitNow p.pace st.kind self.now inputs.table.now inputs.code.now p st }
+        requires tracks { TrackParts self.now inputs.samples.now }
+        ensures { status_of result ≡ status_now K.order inputs.entry.table.now inputs.entry.code.now inputs.entry.samples.now i self.now marks.now }
     {
-        let p = self.threads[i as usize];
-        let st = table[p.at as usize];
-        match (p.pace, st.kind) {
+        let t = self.turn_at(i, inputs);
+        match (t.place.pace, t.step.kind) {
             (Pace::Idling(_), _) => Status::Ready,
             (Pace::Finished, _) => Status::Finished,
-            (Pace::Running, Kind::If) => self.status_if::<K>(i, p, st, table, code, marks),
-            (Pace::Running, Kind::While) => choose_status(
-                !is_open(self.level::<K>(expression(code, st))),
+            (Pace::Running, Kind::If) => self.status_if::<K>(t, inputs, marks),
+            (Pace::Running, Kind::While) => Status::chosen(
+                !is_open(self.level::<K>(inputs.expression(t.step))),
                 false,
             ),
-            (Pace::Running, Kind::With) => self.status_with::<K>(
-                i, p, st, table, code, marks, samples, work,
-            ),
+            (Pace::Running, Kind::With) => self.status_with::<K>(t, inputs, marks, work),
             (Pace::Running, _) => Status::Ready,
         }
     }
@@ -130,24 +111,22 @@ impl Core {
     // The status of every thread.
     pub(crate) fn survey<K: Lattice>(
         &self,
-        table: &[Step],
-        code: &[u8],
+        inputs: Inputs<'_>,
         marks: &[Mark],
-        samples: &[i32],
-        work: &mut [i32],
+        work: &mut [i32; WORK],
     ) -> Survey
-        requires fit { AllFit self.now table.now code.now marks.now }
-        requires work { 16 ≤ length work.old }
-        requires tracks { TrackParts self.now samples.now }
-        ensures ready { ReadyList K.order table.now code.now samples.now self.now marks.now result.ready self.now.head.threads }
-        ensures over { result.over ≡ over_first K.order table.now code.now samples.now self.now marks.now self.now.head.threads }
+        requires fit { AllFit self.now inputs.table.now inputs.code.now marks.now }
+        requires tracks { TrackParts self.now inputs.samples.now }
+        ensures ready { ReadyList K.order inputs.entry.table.now inputs.entry.code.now inputs.entry.samples.now self.now marks.now result.ready self.now.head.threads }
+        ensures over { result.over ≡ over_first K.order inputs.entry.table.now inputs.entry.code.now inputs.entry.samples.now self.now marks.now self.now.head.threads }
     {
         let mut ready = [false; 8];
         let mut over = true;
-        for i in 0..self.head.threads {
-            let status = self.status::<K>(i, table, code, marks, samples, work);
-            ready[i as usize] = is_ready(status);
-            over = over & is_finished(status);
+        let threads = &mut ready[..self.head.threads as usize];
+        for (i, can) in threads.iter_mut().enumerate() {
+            let status = self.status::<K>(i as u8, inputs, marks, work);
+            *can = status.is_ready();
+            over &= status.is_finished();
         }
         Survey { ready, over }
     }

@@ -7,29 +7,25 @@ ghost use Rattle.codec.specs.Operations.{op_of, binary_of, unary_of};
 ghost use Rattle.runs.specs.Operations.{joined_one, Named, taken};
 
 use crate::stack::Stack;
-use crate::{Core, Port};
-use codec::expressions::{Binary, Op, Unary, first_op};
+use crate::{Core, Inputs, Port, WORK};
+use codec::expressions::{Binary, Op, Ops, Unary};
 use lattice::{Lattice, OPEN};
 use survey::Step;
 
-// The bytes of a step's expression.
-pub(crate) fn expression(code: &[u8], st: Step) -> &[u8]
-    requires { (st.start ≤ st.stop) × (st.stop ≤ length code.now) }
-    ensures { result.now ≡ bytes_of code.now st }
-{
-    let start = st.start as usize;
-    let stop = st.stop as usize;
-    &code[start..stop]
-}
-
-// A truth value as a number.
-fn flag_of(b: bool) -> i32
-    ensures { result ≡ truth b }
-{
-    if b { 1 } else { 0 }
+impl<'a> Inputs<'a> {
+    // The bytes of a step's expression.
+    pub(crate) fn expression(self, st: Step) -> &'a [u8]
+        requires { (st.start ≤ st.stop) × (st.stop ≤ length self.code.now) }
+        ensures { result.now ≡ bytes_of self.entry.code.now st }
+    {
+        let start = st.start as usize;
+        let stop = st.stop as usize;
+        &self.code[start..stop]
+    }
 }
 
 // An operation on two numbers, the lower one first.
+#[tactic(auto, using(std::proofs::lemmas::Int::wraps, crate::proofs::Quotients::quotient_is), unfolding(model::specs::Values::apply_binary))]
 fn combine(op: Binary, a: i32, b: i32) -> i32
     ensures { result ≡ apply_binary (binary_of op) a b }
 {
@@ -38,33 +34,30 @@ fn combine(op: Binary, a: i32, b: i32) -> i32
         Binary::Difference => a.wrapping_sub(b),
         Binary::Product => a.wrapping_mul(b),
         Binary::Quotient => { if b == 0 { 0 } else { a.wrapping_div(b) } }
-        Binary::Less => flag_of(a < b),
-        Binary::Equal => flag_of(a == b),
-        Binary::Both => flag_of(a != 0 && b != 0),
-        Binary::Either => flag_of(a != 0 || b != 0),
+        Binary::Less => i32::from(a < b),
+        Binary::Equal => i32::from(a == b),
+        Binary::Both => i32::from(a != 0 && b != 0),
+        Binary::Either => i32::from(a != 0 || b != 0),
     }
 }
 
 // An operation on one number.
+#[tactic(auto, using(std::proofs::lemmas::Int::wraps), unfolding(model::specs::Values::apply_unary))]
 fn alter(op: Unary, a: i32) -> i32
     ensures { result ≡ apply_unary (unary_of op) a }
 {
     match op {
         Unary::Negated => a.wrapping_neg(),
-        Unary::Inverted => flag_of(a == 0),
+        Unary::Inverted => i32::from(a == 0),
     }
 }
 
-// Sample n of a track; 0 where it is not yet fed.
-fn fed(samples: &[i32], port: Port, n: usize) -> i32
-    requires { (port.start + port.count ≤ length samples.now) × (port.count ≤ 2048) }
-    ensures { result ≡ slice_index_or (track_of samples.now port) n (pos 0) }
+// What was fed to a track.
+fn fed(samples: &[i32], port: Port) -> &[i32]
+    requires { port.start + port.count ≤ length samples.now }
+    ensures { result.now ≡ track_of samples.now port }
 {
-    if n < port.count {
-        samples[port.start + n]
-    } else {
-        0
-    }
+    &samples[port.start..][..port.count]
 }
 
 // How many working numbers an operation takes.
@@ -81,21 +74,20 @@ fn operands(op: Op) -> usize
 impl Core {
     // A sample by its index; an index below 0 or not yet fed gives 0.
     fn sample(&self, t: u8, index: i32, samples: &[i32]) -> i32
-        requires few { (t < self.now.head.tracks) × (self.now.head.tracks ≤ 8) }
+        requires track { t < self.now.head.tracks }
         requires tracks { TrackParts self.now samples.now }
         ensures { result ≡ sample_at (slice_index_or (tracks_of self.now samples.now) t []) index }
     {
-        let port = self.tracks[t as usize];
-        if index < 0 {
-            0
-        } else {
-            fed(samples, port, index as usize)
+        let fed = fed(samples, self.tracks[t as usize]);
+        // As one chain, by `map_or`, it was tried, and its return stayed open.
+        match usize::try_from(index) {
+            Ok(n) => fed.get(n).copied().unwrap_or(0),
+            Err(_) => 0,
         }
     }
 
     // The number that an operation makes of the working numbers.
     fn made(&self, op: Op, numbers: Stack, samples: &[i32], work: &[i32]) -> i32
-        requires few { (self.now.head.variables ≤ 64) × (self.now.head.tracks ≤ 8) }
         requires tracks { TrackParts self.now samples.now }
         requires named { Named self.now.head.variables self.now.head.tracks op }
         requires held { (taken op ≤ numbers.held) × (numbers.base + numbers.held ≤ length work.now) }
@@ -112,12 +104,11 @@ impl Core {
     }
 
     // One operation on the working numbers.
-    fn apply(&self, op: Op, numbers: Stack, samples: &[i32], work: &mut [i32]) -> Stack
-        requires few { (self.now.head.variables ≤ 64) × (self.now.head.tracks ≤ 8) }
+    fn apply(&self, op: Op, numbers: Stack, samples: &[i32], work: &mut [i32; WORK]) -> Stack
         requires tracks { TrackParts self.now samples.now }
         requires named { Named self.now.head.variables self.now.head.tracks op }
         requires held { (taken op ≤ numbers.held) × (numbers.held - taken op < 16) }
-        requires room { (numbers.held ≤ 16) × (numbers.base + 16 ≤ length work.old) }
+        requires room { (numbers.held ≤ 16) × (numbers.base ≡ 0) }
         ensures numbers { result ≡ record { base = numbers.base; held = numbers.held - taken op + 1 } }
         ensures work { work.new ≡ slice_set work.old (numbers.base + (numbers.held - taken op)) (made_at self.now samples.now op numbers work.old) }
     {
@@ -126,47 +117,38 @@ impl Core {
     }
 
     // The value of an expression.
-    pub(crate) fn value(&self, code: &[u8], samples: &[i32], work: &mut [i32]) -> i32
-        requires few { (self.now.head.variables ≤ 64) × (self.now.head.tracks ≤ 8) }
+    pub(crate) fn value(&self, code: &[u8], samples: &[i32], work: &mut [i32; WORK]) -> i32
         requires tracks { TrackParts self.now samples.now }
         requires good { Good (head_of_core self.now) code.now }
-        requires work { 16 ≤ length work.old }
         ensures { result ≡ value_at self.now samples.now code.now }
     {
         let mut numbers = Stack { base: 0, held: 0 };
-        let mut rest = code;
-        while let Some((op, after)) = first_op(rest) {
+        for op in Ops::new(code) {
             numbers = self.apply(op, numbers, samples, work);
-            rest = after;
         }
         numbers.item(work, 1)
     }
 
     // One operation's part of a level.
     fn level_one<K: Lattice>(&self, op: Op, from: u32) -> u32
-        requires few { (self.now.head.variables ≤ 64) × (self.now.head.tracks ≤ 8) }
         requires named { Named self.now.head.variables self.now.head.tracks op }
         ensures { result ≡ joined_one K.order (cell_level self.now) (track_level self.now) (op_of op) from }
     {
         match op {
             Op::Variable(x) => K::join(from, self.cells[x as usize].level),
-            Op::Sample(t) => K::join(from, self.tracks[t as usize].level),
-            Op::Held(t) => K::join(from, self.tracks[t as usize].level),
+            Op::Sample(t) | Op::Held(t) => K::join(from, self.tracks[t as usize].level),
             Op::Constant(_) | Op::Two(_) | Op::One(_) => from,
         }
     }
 
     // The level of an expression.
     pub(crate) fn level<K: Lattice>(&self, code: &[u8]) -> u32
-        requires few { (self.now.head.variables ≤ 64) × (self.now.head.tracks ≤ 8) }
         requires good { Good (head_of_core self.now) code.now }
         ensures { result ≡ level_at K.order self.now code.now }
     {
         let mut all = OPEN;
-        let mut rest = code;
-        while let Some((op, after)) = first_op(rest) {
+        for op in Ops::new(code) {
             all = self.level_one::<K>(op, all);
-            rest = after;
         }
         all
     }

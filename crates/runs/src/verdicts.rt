@@ -19,21 +19,19 @@ impl Verdict {
     pub(crate) fn leaves_one(self) -> bool
         ensures { result ≡ (left_by self).one }
     {
-        match self {
-            Verdict::Mark | Verdict::Value => true,
-            Verdict::Drop | Verdict::Silent | Verdict::Closing => false,
-        }
+        matches!(self, Verdict::Mark | Verdict::Value)
     }
 }
 
-// The number of a kind in the format.
+// The number of a kind in the format, by which a decision tells commands from the ends of blocks.
 pub(crate) fn code(kind: Kind) -> u8
     ensures { result ≡ code_of kind }
 {
     kind as u8
 }
 
-// The decision at a frame of this kind, by whether the context level and the expression's may flow to the channel.
+// The decision at a frame of this kind, by whether the context level and the expression's may flow to the channel. The project fixes
+// it over the format's numbers and not over the enum of kinds: ranges of them tell commands from the ends of blocks.
 pub(crate) fn decide(kind: u8, context_flows: bool, level_flows: bool) -> Verdict
     ensures { result ≡ decided kind context_flows level_flows }
 {

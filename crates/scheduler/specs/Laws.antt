@@ -1,12 +1,9 @@
 -- Round robin and the pick list keep the laws of schedulers.
 use Rattle.std.specs.Prelude.{◌≡◌, ℕ, zero, suc, ◌%◌, Bool, true, false, cond, T, List, [], ◌∷◌, slice_index_or, refl}
-use Rattle.std.proofs.Common.{arith, subst}
+use Rattle.std.proofs.Common.{subst}
 use Rattle.std.proofs.Math.Option.{Option as Perhaps, none, some}
 use Rattle.scheduler.specs.Turns.{Meaning, Obedient}
 use Rattle.scheduler.specs.Schedulers.{first_after, pick_list, pick_list_turn, picks_left, round_robin_turn}
-
-none_is_not : (i : ℕ) {P : Type 0} → ◌≡◌ {A = Perhaps ℕ} none (some i) → P
-none_is_not i e = let z : ◌≡◌ {A = ℕ} 0 1 = cc in absurd (omega arith)
 
 -- Whoever answers only ready threads rests where there is none.
 obedient : {S : Type 0} (schedule : Meaning S) → ((g : S) (rs : List Bool) (i : ℕ) → (schedule g rs).0 ≡ some i → T (slice_index_or rs i false)) → Obedient schedule
@@ -26,15 +23,15 @@ ready_or rs n i later e f = go (slice_index_or rs n false) refl e
 
 first_ready : (n : ℕ) (rs : List Bool) (last i : ℕ) → first_after n rs last ≡ some i → T (slice_index_or rs i false)
 unfolding first_after
-first_ready zero rs last i e = none_is_not i e
+first_ready zero rs last i e = cc
 first_ready (suc n) rs last i e = ready_or rs (suc last % 8) i (first_after n rs (suc last % 8)) e (first_ready n rs (suc last % 8) i)
 
 pub round_robin_obeys : Obedient round_robin_turn
 round_robin_obeys = obedient round_robin_turn (λ s rs i e. first_ready 8 rs s.last i e)
 
 pick_ready : (picks : List ℕ) (rs : List Bool) (i : ℕ) → (pick_list picks rs).0 ≡ some i → T (slice_index_or rs i false)
-pick_ready [] rs i e = none_is_not i e
-pick_ready (n ∷ picks) rs i e = ready_or rs n i none e (none_is_not i)
+pick_ready [] rs i e = cc
+pick_ready (n ∷ picks) rs i e = ready_or rs n i none e (λ z. cc)
 
 pub pick_list_obeys : Obedient pick_list_turn
 pick_list_obeys = obedient pick_list_turn (λ s rs i e. pick_ready (picks_left s) rs i e)

@@ -1,10 +1,10 @@
 // Schedulers: told which threads are ready, one answers a thread or a rest.
 #![tactic(auto)]
 
-ghost use Rattle.std.specs.Prelude.{◌≡◌, suc, ◌%◌, false, get_or, if◌then◌else◌, slice_index_or};
+ghost use Rattle.std.specs.Prelude.{◌≡◌, ◌+◌, ◌%◌, ◌≤◌, false, get_or, if◌then◌else◌, slice_index_or};
 ghost use Rattle.std.proofs.Math.Option.{none, some};
 ghost use Rattle.scheduler.specs.Turns.{Meaning, Obedient, answered};
-ghost use Rattle.scheduler.specs.Schedulers.{pick_list_turn, round_robin_turn};
+ghost use Rattle.scheduler.specs.Schedulers.{first_after, pick_list_turn, round_robin_turn};
 ghost use Rattle.scheduler.specs.Laws.{pick_list_obeys, round_robin_obeys};
 
 // A scheduler changes nothing but its own state and never refuses.
@@ -39,6 +39,8 @@ impl RoundRobin {
 #[derive(Drop)]
 pub struct PickList<'a> {
     picks: &'a [u8],
+
+    // A place in the list, and no slice of what is left: the contract of `new` and the meaning name the list and the place.
     at: usize,
 }
 
@@ -56,15 +58,24 @@ impl<'a> PickList<'a> {
 fn is_ready(ready: &[bool], thread: u8) -> bool
     ensures { result ≡ slice_index_or ready.now thread false }
 {
-    let i = thread as usize;
-    if i < ready.len() { ready[i] } else { false }
+    ready.get(usize::from(thread)).copied().unwrap_or(false)
 }
 
-// The thread after another, in a ring of eight.
-fn following(thread: u8) -> u8
-    ensures { result ≡ suc thread % 8 }
+// The thread so many places after another, in a ring of eight.
+fn following(thread: u8, places: u16) -> u8
+    requires { places ≤ 8 }
+    ensures { result ≡ (thread + places) % 8 }
 {
-    ((thread as u16 + 1) % 8) as u8
+    ((u16::from(thread) + places) % 8) as u8
+}
+
+// The first ready thread after another, in that ring.
+fn first_ready(ready: &[bool], thread: u8) -> Option<u8>
+    ensures { answered result ≡ first_after 8 ready.now thread }
+{
+    (1..9)
+        .map(|places| following(thread, places))
+        .find(|next| is_ready(ready, *next))
 }
 
 impl Scheduler for RoundRobin {
@@ -73,15 +84,9 @@ impl Scheduler for RoundRobin {
     ghost obeys = { round_robin_obeys };
 
     fn choose(&mut self, ready: &[bool]) -> Option<u8> {
-        let mut thread = self.last;
-        for i in 0..8u8 {
-            thread = following(thread);
-            if is_ready(ready, thread) {
-                self.last = thread;
-                return Some(thread);
-            }
-        }
-        None
+        let next = first_ready(ready, self.last);
+        self.last = next.unwrap_or(self.last);
+        next
     }
 }
 
@@ -89,11 +94,7 @@ impl Scheduler for RoundRobin {
 fn ready_pick(ready: &[bool], pick: u8) -> Option<u8>
     ensures { answered result ≡ (if get_or ready.now pick false then some pick else none) }
 {
-    if is_ready(ready, pick) {
-        Some(pick)
-    } else {
-        None
-    }
+    is_ready(ready, pick).then_some(pick)
 }
 
 impl<'a> Scheduler for PickList<'a> {
@@ -102,11 +103,8 @@ impl<'a> Scheduler for PickList<'a> {
     ghost obeys = { pick_list_obeys };
 
     fn choose(&mut self, ready: &[bool]) -> Option<u8> {
-        let end = self.picks.len().min(4096);
-        if self.at >= end {
-            return None;
-        }
-        let pick = self.picks[self.at];
+        let counted = &self.picks[..self.picks.len().min(4096)];
+        let pick = *counted.get(self.at)?;
         self.at += 1;
         ready_pick(ready, pick)
     }

@@ -1,7 +1,8 @@
 -- The frames of a valid script are accepted.
-use Rattle.std.proofs.Common.{◌≡◌, ℕ, suc, ◌+◌, ◌<◌, ◌≤◌, Bool, true, false, cond, ◌&&◌, T, eqb, ltb, ◌⊎◌, List, [], ◌∷◌, ◌++◌, length, sym, refl, subst, inr, arith, le→leb, lt→ltb}
+use Rattle.std.proofs.Common.{◌≡◌, ℕ, suc, ◌+◌, ◌<◌, ◌≤◌, Bool, true, false, cond, ◌&&◌, T, ltb, ◌⊎◌, List, [], ◌∷◌, ◌++◌, length, sym, refl, subst, inr, arith, le→leb, lt→ltb}
 use mathlib.Core.Option.{none, some}
 use lib.Dec.{eqb_refl}
+use Rattle.std.proofs.Math.Facts.{yes_eqb}
 use Rattle.std.specs.List.{AllByRecursion}
 use Rattle.lattice.specs.Levels.{Levels}
 use Rattle.script.specs.Code.{Code, Script}
@@ -19,9 +20,6 @@ use Rattle.script.proofs.Scripts.{length_body}
 and_both : (a b : Bool) → T a → T b → T (a && b)
 and_both true b s t = t
 and_both false b s t = s
-
-same_eqb : (m n : ℕ) → m ≡ n → T (eqb m n)
-same_eqb m n e = subst (λ (x : ℕ). T (eqb m x)) e (eqb_refl m)
 
 no_fault : (ts : List Test) (u : Test) → Passing ts → T u.passes → first_fault (ts ++ (u ∷ [])) ≡ none
 no_fault [] u h t = go u.passes t
@@ -87,7 +85,7 @@ module _ (kind : ℕ) (k : Levels) (m : ℕ) (small : m ≤ 512) (h : Head) wher
   unfolding read_lines
   read_threads [] i tr cr j v e z =
       reads kind k outside (seen h h.tracks h.channels i tr cr j) (last m) []
-      (and_both _ _ (and_both _ _ (and_both _ _ (eqb_refl h.tracks) (eqb_refl h.channels)) (same_eqb i h.threads (omega arith))) (same_eqb m (suc j) (omega arith)), tt)
+      (and_both _ _ (and_both _ _ (and_both _ _ (eqb_refl h.tracks) (eqb_refl h.channels)) (yes_eqb {a = i} {b = h.threads} (omega arith))) (yes_eqb {a = m} {b = suc j} (omega arith)), tt)
       (omega arith) refl
   read_threads (c ∷ cs) i tr cr j v e z =
       let n = seen h h.tracks h.channels (suc i) tr cr j in

@@ -56,13 +56,12 @@ module _ (kind : ℕ) (k : Levels) where
     pub count : length frames ≡ s.frames
     pub declares : seen_of s ≡ through nothing_seen frames
     pub few : s.frames ≤ 512
-    pub deep : s.depth ≤ 16
     pub slots : take (s.frames * 51) slab ≡ slots_of frames
     pub past : drop 26112 slab ≡ drop 26112 begin
 
-  pub begins : (lines slab : List ℕ) (s : State) → phase_of s ≡ start → seen_of s ≡ nothing_seen → s.depth ≤ 16 → Filled lines s lines slab slab
+  pub begins : (lines slab : List ℕ) (s : State) → phase_of s ≡ start → seen_of s ≡ nothing_seen → Filled lines s lines slab slab
   unfolding read_script
-  begins lines slab s p n d =
+  begins lines slab s p n =
       let z : s.frames ≡ 0 = ap (λ (m : Seen). m.frames) n in
       record {
         frames = [];
@@ -70,7 +69,6 @@ module _ (kind : ℕ) (k : Levels) where
         count = sym z;
         declares = n;
         few = omega arith;
-        deep = d;
         slots = ap (λ (m : ℕ). take (m * 51) slab) z;
         past = refl;
       }
@@ -97,7 +95,6 @@ module _ (kind : ℕ) (k : Levels) where
         count = length_push h.frames f ∙ ap (λ (m : ℕ). m + 1) h.count ∙ add-one s.frames ∙ sym more;
         declares = w.stepped.seen_is ∙ ap (λ (m : Seen). seen_after m f) h.declares ∙ sym (through_more nothing_seen h.frames f);
         few = omega arith;
-        deep = w.stepped.deep;
         slots =
             take-put_mid (s.frames * 51) n slab z (t.frames * 51) (omega arith) (omega arith)
             ∙ ap₂ (λ (x y : List ℕ). x ++ y) h.slots (ez ∙ w.holds)

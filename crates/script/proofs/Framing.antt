@@ -1,5 +1,5 @@
 -- The frame in a slot of a slab that holds a script.
-use Rattle.std.proofs.Common.{◌≡◌, ℕ, zero, suc, ◌+◌, ◌-◌, ◌*◌, ◌<◌, ◌≤◌, Bool, true, false, cond, ◌&&◌, ltb, leb, List, [], ◌∷◌, ◌++◌, length, get_or, take, drop, replicate, Option, sym, refl, ap, ◌∙◌, ⊎_elim, arith, le-ltb, lt-ltb, le-leb}
+use Rattle.std.proofs.Common.{◌≡◌, ℕ, zero, suc, ◌+◌, ◌-◌, ◌*◌, ◌<◌, ◌≤◌, List, [], ◌∷◌, ◌++◌, length, get_or, take, drop, replicate, Option, None, sym, refl, ap, ◌∙◌, ⊎_elim, arith, le-ltb, lt-ltb, le-leb}
 use mathlib.Core.Option.{none, some}
 use Rattle.std.proofs.lemmas.Bool.{cases_lt}
 use borrow.Author.Tests.{lt-leb}
@@ -15,7 +15,7 @@ use Rattle.codec.specs.Writable.{Writable}
 use Rattle.codec.specs.declared.frames.Frame.{Frame}
 use Rattle.codec.proofs.Encoding.{frame_forth}
 use Rattle.script.specs.Findings.{length_at}
-use Rattle.script.specs.Slabs.{Holds, frame_in, frame_number, slab_of, slot_at, slots_of}
+use Rattle.script.specs.Slabs.{Holds, frame_in, frame_number, SlotFound, slab_of, slot_at, slots_of}
 use Rattle.script.specs.Promises.{FrameFound}
 use Rattle.script.proofs.Holding.{held_few, held_writable}
 use Rattle.script.proofs.SlotTakings.{fronts}
@@ -52,18 +52,11 @@ unfolding frame_of
 zero_front slot e = ap (λ (s : List ℕ). frame_of (take (length_at s) s)) e
 
 -- A slot is in the slab, or it is not.
-pub in_slab : (slab : List ℕ) (i : ℕ) → i < 512 → i * 51 + 51 ≤ length slab → frame_in slab i ≡ frame_of (take (length_at (slot_at slab i)) (slot_at slab i))
+in_slab : (slab : List ℕ) (i : ℕ) → i < 512 → i * 51 + 51 ≤ length slab → frame_in slab i ≡ frame_of (take (length_at (slot_at slab i)) (slot_at slab i))
 in_slab slab i few room = rw (lt-ltb i 512 few, le-leb (i * 51 + 51) (length slab) room)
 
-pub no_slot : (slab : List ℕ) (i : ℕ) → 512 ≤ i → none ≡ frame_in slab i
-no_slot slab i h = rw (le-ltb i 512 h)
-
-pub cut_slab : (slab : List ℕ) (i : ℕ) → length slab < i * 51 + 51 → none ≡ frame_in slab i
-cut_slab slab i h = go (ltb i 512)
-  where
-    go : (b : Bool) → none ≡ cond (b && leb (i * 51 + 51) (length slab)) (frame_of (take (length_at (slot_at slab i)) (slot_at slab i))) none
-    go true = rw (lt-leb (i * 51 + 51) (length slab) h)
-    go false = refl
+no_slot : (slab : List ℕ) (i : ℕ) → (i < 512 → length slab < i * 51 + 51) → none ≡ frame_in slab i
+no_slot slab i h = ⊎_elim (λ l. rw (lt-ltb i 512 l, lt-leb (i * 51 + 51) (length slab) (h l))) (λ l. rw (le-ltb i 512 l)) (cases_lt i 512)
 
 module _ (kind : ℕ) (k : Levels) (slab : List ℕ) (fs : List M.Frame) (h : Holds kind k slab fs) (i : ℕ) where
   pub frame_held : frame_in slab i ≡ frame_number i fs
@@ -87,7 +80,14 @@ module _ (kind : ℕ) (k : Levels) (slab : List ℕ) (fs : List M.Frame) (h : Ho
       beyond l few = in_slab slab i few (omega (arith, h.room)) ∙ zero_front (slot_at slab i) (zero_slot slab fs i all l few h.slots)
 
       past : length fs ≤ i → frame_in slab i ≡ frame_number i fs
-      past l = ⊎_elim (beyond l) (λ far. sym (no_slot slab i far)) (cases_lt i 512) ∙ sym (numbered_past fs i l)
+      past l = ⊎_elim (beyond l) (λ far. sym (no_slot slab i (λ l. absurd (omega arith)))) (cases_lt i 512) ∙ sym (numbered_past fs i l)
 
 pub found : (slab : List ℕ) (i : ℕ) (r : Option Frame) → perhaps read_of r ≡ frame_in slab i → FrameFound slab i r
 found slab i r e = record { bytes = e; held = λ kind k fs h. e ∙ frame_held kind k slab fs h i }
+
+-- Where there is no slot there is no frame; else it is at the slot's front.
+pub found_none : (slab : List ℕ) (i : ℕ) → (i < 512 → length slab < i * 51 + 51) → FrameFound slab i None
+found_none slab i h = found slab i None (no_slot slab i h)
+
+pub found_front : (slab slot front : List ℕ) (i : ℕ) (r : Option Frame) → SlotFound slab i slot → front ≡ take (length_at slot) slot → perhaps read_of r ≡ frame_of front → FrameFound slab i r
+found_front slab slot front i r s f h = found slab i r (h ∙ ap frame_of (f ∙ ap (λ (x : List ℕ). take (length_at x) x) s.is) ∙ sym (in_slab slab i s.few s.room))

@@ -1,5 +1,5 @@
 -- A slab that holds a script.
-use Rattle.std.proofs.Common.{◌≡◌, ℕ, ◌+◌, ◌-◌, ◌*◌, ◌≤◌, Bool, List, ◌++◌, length, take, drop, replicate, Ok, sym, ap, ◌∙◌, subst, append_assoc, arith, length-append, le-ltb}
+use Rattle.std.proofs.Common.{◌≡◌, ℕ, ◌+◌, ◌-◌, ◌*◌, ◌<◌, ◌≤◌, Bool, List, ◌++◌, length, take, drop, replicate, Option, None, Some, MatchOption, Ok, sym, ap, ◌∙◌, subst, append_assoc, arith, length-append, le-ltb}
 use lib.ListN.{length-replicate}
 use borrow.Rule.Slice.PartMut.{put_mid}
 use Rattle.std.proofs.lemmas.List.{drop-drop, length-take-le, take_at}
@@ -13,7 +13,9 @@ use Rattle.script.specs.declared.Accepted.{Accepted}
 use Rattle.script.specs.declared.state.State.{State}
 use Rattle.script.specs.Takings.{Fills}
 use Rattle.script.specs.Slabs.{slots_of, Declares, slab_of, Holds}
-use Rattle.script.specs.Promises.{ReadAs, ReadGives, TooShort, by_test}
+use Rattle.script.specs.Promises.{Held, ReadAs, ReadGives, TooShort, Wrote, by_test}
+use Rattle.script.specs.Writings.{AllPut}
+use Rattle.script.specs.declared.Declarations.{Declarations}
 use Rattle.script.specs.Stages.{declaring}
 use Rattle.script.specs.Text.{text_of}
 use Rattle.script.specs.Format.Verdict.{accepted}
@@ -79,3 +81,9 @@ held_few kind k slab fs h =
     let t = text_accepted kind k (text_of fs) fs h.accepts in
     let few = t.valid.frames in
     omega (arith, ap length t.frames_are)
+
+-- The script that a slab holds, put or not: it is the only one.
+pub written : (kind : ℕ) (k : Levels) (slab out end : List ℕ) (d : Declarations) (r : Option ℕ) (h : Held kind k slab d) → MatchOption r (length out < length (text_of h.frames)) (AllPut h.frames out end)
+    → MatchOption r ((fs : List Frame) → Holds kind k slab fs → length out < length (text_of fs)) (Wrote kind k slab out end)
+written kind k slab out end d None h short = λ fs v. subst (λ (gs : List Frame). length out < length (text_of gs)) (sym (h.only fs v)) short
+written kind k slab out end d (Some n) h p = record { frames = h.frames; holds = h.holds; only = h.only; long = p.long; is = p.is }

@@ -16,9 +16,6 @@ use Rattle.script.proofs.Holding.{kept}
 use Rattle.script.proofs.Text.{text_accepted, text_read}
 use Rattle.script.proofs.Unique.{one_tree}
 
-clash : (n l : ℕ) (fs : List Frame) → refused n l ≡ accepted fs → ⊥
-clash n l fs p = let z : ◌≡◌ {A = ℕ} 0 1 = cc in omega arith
-
 -- The first fault
 
 module _ (kind : ℕ) (k : Levels) where
@@ -41,14 +38,14 @@ module _ (kind : ℕ) (k : Levels) where
   ends [] p s n l e = go (is_ended p) refl e
     where
       go : (b : Bool) → is_ended p ≡ b → cond b (accepted []) (refused 5 (suc s.frames)) ≡ refused n l → Ends p s [] n l
-      go true q h = absurd (clash n l [] (sym h))
+      go true q h = cc
       go false q h = at_once p s [] 5 n l (rw q) h
   ends (inl m ∷ ls) p s n l e = at_once p s (inl m ∷ ls) m n l refl e
   ends (inr r ∷ ls) p s n l e = go (fault kind k p s r) refl (read_lines kind k (phase_after p r.frame) (seen_after s r.frame) ls) (ends ls (phase_after p r.frame) (seen_after s r.frame) n l) e
     where
       go : (o : Perhaps ℕ) → fault kind k p s r ≡ o → (v : Verdict) → (v ≡ refused n l → Ends (phase_after p r.frame) (seen_after s r.frame) ls n l) → judged (suc s.frames) r.frame o v ≡ refused n l → Ends p s (inr r ∷ ls) n l
       go (some m) q v later h = at_once p s (inr r ∷ ls) m n l q h
-      go none q (accepted fs) later h = absurd (clash n l (r.frame ∷ fs) (sym h))
+      go none q (accepted fs) later h = cc
       go none q (refused m j) later h =
           let t = later h in
           record { frames = r.frame ∷ t.frames; rest = t.rest; passed = (refl, q, t.passed); at = omega (arith, t.at, frames_after s r.frame); told = t.told }
@@ -76,7 +73,7 @@ module _ (kind : ℕ) (k : Levels) where
       }
 
   refused_text : (lines : List ℕ) (n l : ℕ) → read_script kind k lines ≡ refused n l → ValidText kind k lines → ⊥
-  refused_text lines n l e t = clash n l _ (sym e ∙ ap (read_script kind k) (sym t.text) ∙ text_read kind k t.script t.valid t.writable)
+  refused_text lines n l e t = cc (sym e ∙ ap (read_script kind k) (sym t.text) ∙ text_read kind k t.script t.valid t.writable)
 
   -- Reading
 

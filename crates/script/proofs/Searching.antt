@@ -1,7 +1,8 @@
 -- Finding the script in a slab, slot by slot: the frames so far stand in front of every script that the slab holds.
-use Rattle.std.proofs.Common.{◌≡◌, ℕ, suc, ◌+◌, ◌-◌, ◌*◌, ◌<◌, ◌≤◌, true, false, ltb, ◌⊎◌, List, [], ◌∷◌, ◌++◌, map, length, take, drop, replicate, sym, refl, ap, ◌∙◌, subst, ap₂, inr, append_assoc, append-nil, add-one, arith, ltb→lt, length-append}
+use Rattle.std.proofs.Common.{◌≡◌, ℕ, suc, ◌+◌, ◌-◌, ◌*◌, ◌<◌, ◌≤◌, Bool, true, false, ltb, ◌⊎◌, List, [], ◌∷◌, ◌++◌, map, length, take, drop, replicate, MatchOption, sym, refl, ap, ◌∙◌, ⊎_elim, subst, ap₂, inr, append_assoc, append-nil, add-one, arith, ltb→lt, length-append}
 use mathlib.Core.Option.{Option, none, some}
 use lib.ListN.{length-replicate}
+use Rattle.std.specs.Bool.{then_some}
 use Rattle.std.specs.List.{AllByRecursion}
 use Rattle.std.proofs.ByRecursion.{All-push}
 use Rattle.std.proofs.lemmas.List.{drop_at, drop-take, flat_map_more, length-drop, length_push, length-take, length-take-le, take-append-drop, take_at, take-take}
@@ -10,7 +11,7 @@ use Rattle.codec.specs.Frames.{Frame, Read, frame_of, frame_bytes}
 use Rattle.codec.specs.Frames.Frame.{header, track, channel, thread, thread_end, skip, assign, put, if, else, end_if, while, end_while, with, end_with, last}
 use Rattle.script.specs.Format.{Phase, Seen, ◌asks◌, nothing_seen, fault, is_ended, read_lines, read_script, seen_after, tests, whole_line, through}
 use Rattle.script.specs.Format.Phase.{start, outside, inside, ended}
-use Rattle.script.specs.Format.Verdict.{refused, accepted}
+use Rattle.script.specs.Format.Verdict.{accepted}
 use Rattle.codec.specs.Writable.{Writable}
 use Rattle.script.proofs.Accepting.{Passing, passing, passing_parts}
 use Rattle.script.proofs.Complete.{whole_lines}
@@ -23,7 +24,7 @@ use Rattle.script.specs.declared.state.State.{State}
 use Rattle.codec.specs.Slots.{padded}
 use Rattle.codec.specs.Shapes.{whole}
 use Rattle.script.specs.Stages.{phase_of, seen_of, declaring}
-use Rattle.script.specs.Slabs.{slots_of, Holds}
+use Rattle.script.specs.Slabs.{slots_of, Holds, SlotFound}
 use Rattle.script.specs.Nexts.{Fitting, Next, NoNext}
 use Rattle.script.specs.Findings.{all_zero}
 use Rattle.script.specs.Writings.{Slotted}
@@ -34,15 +35,6 @@ use Rattle.script.proofs.SlotLengths.{zeros_from, zeros_to}
 use Rattle.script.proofs.Holding.{held_writable}
 use Rattle.script.proofs.Texting.{middle, slots_more}
 use Rattle.script.proofs.SlotTakings.{fronts}
-
-never : {A : Type 0} (x : A) → ◌≡◌ {A = Option A} none (some x) → ⊥
-never x p = let z : ◌≡◌ {A = ℕ} 0 1 = cc in omega arith
-
-untrue : true ≡ false → ⊥
-untrue p = let z : ◌≡◌ {A = ℕ} 0 1 = cc in omega arith
-
-clash : (n l : ℕ) (gs : List Frame) → refused n l ≡ accepted gs → ⊥
-clash n l gs p = let z : ◌≡◌ {A = ℕ} 0 1 = cc in omega arith
 
 whole_more : (fs gs : List Frame) → whole_lines (fs ++ gs) ≡ whole_lines fs ++ whole_lines gs
 whole_more [] gs = refl
@@ -59,9 +51,9 @@ unique slot f h wf wh ef eh =
     ap (λ (x : Read). x.frame) r
 
 ended_is : (p : Phase) → true ≡ is_ended p → p ≡ ended
-ended_is start e = absurd (untrue e)
-ended_is outside e = absurd (untrue e)
-ended_is (inside bs) e = absurd (untrue e)
+ended_is start e = cc
+ended_is outside e = cc
+ended_is (inside bs) e = cc
 ended_is ended e = refl
 
 -- Behind the last frame no frame passes.
@@ -98,12 +90,11 @@ module _ (kind : ℕ) (k : Levels) (slab : List ℕ) where
     pub count : length frames ≡ s.frames
     pub declares : seen_of s ≡ through nothing_seen frames
     pub few : s.frames ≤ 512
-    pub deep : s.depth ≤ 16
     pub slots : take (s.frames * 51) slab ≡ slots_of frames
     pub only : (gs : List Frame) → Holds kind k slab gs → (hs : List Frame) × (gs ≡ frames ++ hs)
 
-  pub found_first : (s : State) → phase_of s ≡ start → seen_of s ≡ nothing_seen → s.depth ≤ 16 → Found s
-  found_first s p n d =
+  pub found_first : (s : State) → phase_of s ≡ start → seen_of s ≡ nothing_seen → Found s
+  found_first s p n =
       let z : s.frames ≡ 0 = ap (λ (m : Seen). m.frames) n in
       record {
         frames = [];
@@ -112,7 +103,6 @@ module _ (kind : ℕ) (k : Levels) (slab : List ℕ) where
         count = sym z;
         declares = n;
         few = omega arith;
-        deep = d;
         slots = ap (λ (m : ℕ). take (m * 51) slab) z;
         only = λ gs h. (gs, refl);
       }
@@ -129,7 +119,7 @@ module _ (kind : ℕ) (k : Levels) (slab : List ℕ) where
       where
         go : (o : Option ℕ) → fault kind k (phase_of s) (seen_of s) (whole h) ≡ o → fault kind k (phase_of s) (seen_of s) (whole h) ≡ none
         go none q = q
-        go (some n) q = absurd (clash n _ gs (sym (read_fault kind k (phase_of s) (seen_of s) d.frames (whole h) (whole_lines hs) n q) ∙ left_reads gs (h ∷ hs) w e))
+        go (some n) q = cc (sym (read_fault kind k (phase_of s) (seen_of s) d.frames (whole h) (whole_lines hs) n q) ∙ left_reads gs (h ∷ hs) w e)
 
     passed : (h : Frame) → fault kind k (phase_of s) (seen_of s) (whole h) ≡ none → Passing (tests kind k (phase_of s) (seen_of s) h true) × (s.frames < 512)
     unfolding fault
@@ -138,7 +128,7 @@ module _ (kind : ℕ) (k : Levels) (slab : List ℕ) where
         (p.0, ltb→lt s.frames 512 p.1.0)
 
     none_left : (gs : List Frame) → Holds kind k slab gs → gs ≡ d.frames ++ [] → false ≡ is_ended (phase_of s) → ⊥
-    none_left gs w e f = clash 5 _ gs (sym (read_missing kind k (phase_of s) (seen_of s) d.frames (sym f)) ∙ left_reads gs [] w e)
+    none_left gs w e f = cc (sym (read_missing kind k (phase_of s) (seen_of s) d.frames (sym f)) ∙ left_reads gs [] w e)
 
     slots_long : (26112 ≤ length slab) → length (slots_of d.frames) ≡ s.frames * 51
     slots_long room = let few = d.few in sym (ap length d.slots) ∙ length-take-le (s.frames * 51) slab (omega arith)
@@ -186,14 +176,14 @@ module _ (kind : ℕ) (k : Levels) (slab : List ℕ) where
             let few = (passed h q).1 in
             record { head = h; tail = hs; is = e; fitting = record { writable = fits; holds = slot_is gs h hs w e fits few; passes = q }; room = few }
 
-    pub found_none : false ≡ is_ended (phase_of s) → NoNext kind k s (take 51 (drop (s.frames * 51) slab)) → (gs : List Frame) → Holds kind k slab gs → ⊥
-    found_none f lacks gs w = let h = head_of gs w f in lacks h.head h.fitting
+    pub found_none : (slot : List ℕ) → false ≡ is_ended (phase_of s) → SlotFound slab s.frames slot → NoNext kind k s slot → (gs : List Frame) → Holds kind k slab gs → ⊥
+    found_none slot f at lacks gs w = let h = head_of gs w f in lacks h.head (subst (λ (x : List ℕ). Fitting kind k s x h.head) (sym at.is) h.fitting)
 
-    pub found_full : false ≡ is_ended (phase_of s) → 512 ≤ s.frames → (gs : List Frame) → Holds kind k slab gs → ⊥
-    found_full f full gs w = let h = (head_of gs w f).room in omega arith
+    pub found_lost : false ≡ is_ended (phase_of s) → (s.frames < 512 → length slab < s.frames * 51 + 51) → (gs : List Frame) → Holds kind k slab gs → ⊥
+    found_lost f lost gs w = let few = (head_of gs w f).room in omega (arith, lost few, w.room)
 
-    pub found_next : (t : State) → 26112 ≤ length slab → false ≡ is_ended (phase_of s) → s.frames < 512 → Next kind k s (take 51 (drop (s.frames * 51) slab)) t → Found t
-    found_next t room f few w =
+    pub found_next : (slot : List ℕ) (t : State) → false ≡ is_ended (phase_of s) → SlotFound slab s.frames slot → Next kind k s slot t → Found t
+    found_next slot t f at w =
         let h = w.frame in
         let a = s.frames * 51 in
         let more : t.frames ≡ suc s.frames = ap (λ (m : Seen). m.frames) w.stepped.seen_is ∙ frames_after (seen_of s) h in
@@ -210,15 +200,14 @@ module _ (kind : ℕ) (k : Levels) (slab : List ℕ) where
               ∙ ap (read_lines kind k start nothing_seen) (sym (append_assoc (whole_lines d.frames) (inr (whole h) ∷ []) ls) ∙ ap (λ (r : List (ℕ ⊎ Read)). r ++ ls) (sym (whole_more d.frames (h ∷ []))));
           count = length_push d.frames h ∙ ap (λ (m : ℕ). m + 1) d.count ∙ add-one s.frames ∙ sym more;
           declares = w.stepped.seen_is ∙ ap (λ (m : Seen). seen_after m h) d.declares ∙ sym (through_more nothing_seen d.frames h);
-          few = omega arith;
-          deep = w.stepped.deep;
+          few = omega (arith, at.few);
           slots =
               ap (λ (m : ℕ). take m slab) n ∙ split_at
-              ∙ ap₂ (λ (x y : List ℕ). x ++ y) d.slots w.fitting.holds
+              ∙ ap₂ (λ (x y : List ℕ). x ++ y) d.slots (sym at.is ∙ w.fitting.holds)
               ∙ flat_map_more (λ (g : Frame). padded 51 (frame_bytes g)) [] d.frames h;
           only = λ gs v.
               let u = head_of gs v f in
-              let same : u.head ≡ h = unique _ u.head h u.fitting.writable w.fitting.writable u.fitting.holds w.fitting.holds in
+              let same : u.head ≡ h = unique _ u.head h u.fitting.writable w.fitting.writable u.fitting.holds (sym at.is ∙ w.fitting.holds) in
               (u.tail, u.is ∙ ap (λ (x : Frame). d.frames ++ (x ∷ u.tail)) same ∙ sym (append_assoc d.frames (h ∷ []) u.tail));
         }
 
@@ -231,7 +220,7 @@ module _ (kind : ℕ) (k : Levels) (slab : List ℕ) where
             let q = (passed h (head_passes gs h hs w e)).0 in
             absurd (none_behind kind k (seen_of s) h (subst (λ (p : Phase). Passing (tests kind k p (seen_of s) h true)) (ended_is (phase_of s) f) q))
 
-    pub found_all : 26112 ≤ length slab → true ≡ is_ended (phase_of s) → true ≡ all_zero (take (26112 - s.frames * 51) (drop (s.frames * 51) slab)) → Held kind k slab (declaring s)
+    found_all : 26112 ≤ length slab → true ≡ is_ended (phase_of s) → true ≡ all_zero (take (26112 - s.frames * 51) (drop (s.frames * 51) slab)) → Held kind k slab (declaring s)
     found_all room f nil =
         let few = d.few in
         let a = s.frames * 51 in
@@ -263,14 +252,23 @@ module _ (kind : ℕ) (k : Levels) (slab : List ℕ) where
           only = only_one f;
         }
 
-    pub found_more : true ≡ is_ended (phase_of s) → false ≡ all_zero (take (26112 - s.frames * 51) (drop (s.frames * 51) slab)) → (gs : List Frame) → Holds kind k slab gs → ⊥
+    found_more : true ≡ is_ended (phase_of s) → false ≡ all_zero (take (26112 - s.frames * 51) (drop (s.frames * 51) slab)) → (gs : List Frame) → Holds kind k slab gs → ⊥
     found_more f some_left gs w = go (d.only gs w).0 (d.only gs w).1
       where
         go : (hs : List Frame) → gs ≡ d.frames ++ hs → ⊥
-        go [] e = untrue (sym (zeros_to (26112 - length (slots_of gs))) ∙ ap all_zero (sym (behind_slots gs [] w e)) ∙ sym some_left)
+        go [] e = cc (sym (zeros_to (26112 - length (slots_of gs))) ∙ ap all_zero (sym (behind_slots gs [] w e)) ∙ sym some_left)
         go (h ∷ hs) e =
             let q = (passed h (head_passes gs h hs w e)).0 in
             none_behind kind k (seen_of s) h (subst (λ (p : Phase). Passing (tests kind k p (seen_of s) h true)) (ended_is (phase_of s) f) q)
+
+    -- Behind the last frame: the slab is too short, or what is left of it is zero or not.
+    pub found_short : (26112 < s.frames * 51) ⊎ (length slab < 26112) → (gs : List Frame) → Holds kind k slab gs → ⊥
+    found_short h gs w = ⊎_elim (λ far. omega (arith, d.few)) (λ short. omega (arith, w.room)) h
+
+    pub found_end : (rest : List ℕ) (b : Bool) → true ≡ is_ended (phase_of s) → 26112 ≤ length slab → rest ≡ take (26112 - s.frames * 51) (drop (s.frames * 51) slab) → b ≡ all_zero rest
+        → MatchOption (then_some b (declaring s)) ((gs : List Frame) → Holds kind k slab gs → ⊥) (Held kind k slab)
+    found_end rest true f room e z = found_all room f (z ∙ ap all_zero e)
+    found_end rest false f room e z = found_more f (z ∙ ap all_zero e)
 
 -- The frames of the script that was found, in the slots.
 pub slotted : (kind : ℕ) (k : Levels) (slab : List ℕ) (d : Declarations) (h : Held kind k slab d) → Slotted slab d.frames h.frames

@@ -1,9 +1,10 @@
 -- How long the frame at the front of a slot is.
-use Rattle.std.proofs.Common.{◌≡◌, ℕ, zero, suc, ◌+◌, ◌-◌, ◌/◌, ◌%◌, ◌<◌, ◌≤◌, Bool, true, false, ◌&&◌, eqb, List, [], ◌∷◌, ◌++◌, length, get_or, drop, replicate, sym, refl, ap, ◌∙◌, arith, w32, to_z, of_z, ne_eqb, eqb-true}
+use Rattle.std.proofs.Common.{◌≡◌, ℕ, zero, suc, ◌-◌, ◌/◌, ◌%◌, ◌*◌, ◌≤◌, Bool, true, false, ◌&&◌, eqb, List, [], ◌∷◌, ◌++◌, length, replicate, sum_by, length-append, refl, ap, ◌∙◌, arith, w32, to_z, of_z, eqb-true}
 use Rattle.std.specs.List.{AllByRecursion}
-use Rattle.std.proofs.lemmas.List.{at_drop_more, at_drop_all}
 use Rattle.std.proofs.lemmas.Int.{to_z-of_z}
-use Rattle.codec.specs.Expressions.{Expr, decode, operation, expr_bytes, number_4}
+use mathlib.Core.Option.{Option, none, some}
+use Rattle.std.proofs.lemmas.List.Sums.{sum_by-cons}
+use Rattle.codec.specs.Expressions.{Expr, Op, Taken, and_then, decode, operation, op_bytes, expr_bytes, number_4}
 use Rattle.codec.specs.Expressions.Op.{constant, variable, sample, held, binary, unary}
 use Rattle.codec.specs.Expressions.Binary.{sum, difference, product, quotient, less, equal, both, either}
 use Rattle.codec.specs.Expressions.Unary.{negated, inverted}
@@ -21,7 +22,7 @@ and_left false b e = e
 
 and_right : (a b : Bool) → a && b ≡ true → b ≡ true
 and_right true b e = e
-and_right false b e = let z : ◌≡◌ {A = ℕ} 0 1 = cc in absurd (omega arith)
+and_right false b e = cc
 
 pub zeros_from : (bs : List ℕ) → all_zero bs ≡ true → bs ≡ replicate (length bs) 0
 zeros_from [] e = refl
@@ -35,6 +36,34 @@ zeros_to (suc n) = zeros_to n
 
 number_four : (n : ℕ) → number_4 (n / 16777216) (n / 65536 % 256) (n / 256 % 256) (n % 256) ≡ n
 number_four n = omega arith
+
+op_short : (o : Op) → length (op_bytes o) ≤ 5
+op_short (constant z) = omega arith
+op_short (variable x) = omega arith
+op_short (sample t) = omega arith
+op_short (held t) = omega arith
+op_short (binary b) = omega arith
+op_short (unary u) = omega arith
+
+pub expr_short : (e : Expr) → length (expr_bytes e) ≤ 5 * length e
+expr_short [] = omega arith
+expr_short (o ∷ e) = omega (arith, length-append (op_bytes o) (expr_bytes e), op_short o, expr_short e)
+
+-- An expression has as many bytes as its operations together.
+pub expr_sum : (e : Expr) → sum_by (λ o. length (op_bytes o)) e ≡ length (expr_bytes e)
+expr_sum [] = refl
+expr_sum (o ∷ e) = omega (arith, sum_by-cons (λ (o : Op). length (op_bytes o)) o e, length-append (op_bytes o) (expr_bytes e), expr_sum e)
+
+-- A code has no more operations than bytes.
+pub decode_few : (n : ℕ) (bs : List ℕ) → length (decode n bs).ops ≤ length bs
+unfolding decode
+decode_few n [] = omega arith
+decode_few (suc n) (b ∷ bs) = omega (arith, decode_few n bs)
+decode_few zero (b ∷ bs) = go (operation b bs) (λ n. decode_few n bs)
+  where
+    go : (o : Option Taken) → ((n : ℕ) → length (decode n bs).ops ≤ length bs) → length (and_then o (λ n. decode n bs)).ops ≤ suc (length bs)
+    go none few = omega arith
+    go (some t) few = omega (arith, few t.bytes)
 
 pub decode_zeros : (e : Expr) (m : ℕ) → AllByRecursion OpFits e → (decode 0 (expr_bytes e ++ replicate m 0)).ops ≡ e
 unfolding decode operation
@@ -77,35 +106,3 @@ length_is end_while w = refl
 length_is (with m e) w = omega (arith, code_is e (51 - suc (suc (suc (length (expr_bytes e))))) w.2)
 length_is end_with w = refl
 length_is (last m) w = refl
-
--- Zeros in a loop
-
-pub zero_more : (bs : List ℕ) (i : ℕ) → i < length bs → get_or bs i 0 ≡ 0 → all_zero (drop i bs) ≡ all_zero bs → all_zero (drop (i + 1) bs) ≡ all_zero bs
-zero_more bs i h e was =
-    let m : all_zero (drop i bs) ≡ eqb (get_or bs i 0) 0 && all_zero (drop (i + 1) bs) = at_drop_more all_zero bs i 0 h in
-    sym (ap (λ (x : ℕ). eqb x 0 && all_zero (drop (i + 1) bs)) e) ∙ sym m ∙ was
-
-pub zero_not : (bs : List ℕ) (i : ℕ) → i < length bs → (get_or bs i 0 ≡ 0 → ⊥) → all_zero (drop i bs) ≡ all_zero bs → false ≡ all_zero bs
-zero_not bs i h ne was =
-    let m : all_zero (drop i bs) ≡ eqb (get_or bs i 0) 0 && all_zero (drop (i + 1) bs) = at_drop_more all_zero bs i 0 h in
-    sym (ap (λ (t : Bool). t && all_zero (drop (i + 1) bs)) (ne_eqb (get_or bs i 0) 0 ne)) ∙ sym m ∙ was
-
-pub zero_all : (bs : List ℕ) (i : ℕ) → length bs ≤ i → all_zero (drop i bs) ≡ all_zero bs → true ≡ all_zero bs
-zero_all bs i h was = sym (at_drop_all all_zero bs i h) ∙ was
-
--- By kind
-
-pub length_64 : (s : List ℕ) (r : ℕ) → get_or s 0 0 ≡ 64 → r ≡ code_length (drop 1 s) → 1 + r ≡ length_at s
-length_64 s r k e = rw k (ap (λ (x : ℕ). 1 + x) e)
-
-pub length_67 : (s : List ℕ) (r : ℕ) → get_or s 0 0 ≡ 67 → r ≡ code_length (drop 1 s) → 1 + r ≡ length_at s
-length_67 s r k e = rw k (ap (λ (x : ℕ). 1 + x) e)
-
-pub length_69 : (s : List ℕ) (r : ℕ) → get_or s 0 0 ≡ 69 → r ≡ code_length (drop 3 s) → 3 + r ≡ length_at s
-length_69 s r k e = rw k (ap (λ (x : ℕ). 3 + x) e)
-
-pub length_49 : (s : List ℕ) (r : ℕ) → get_or s 0 0 ≡ 49 → r ≡ code_length (drop 2 s) → 2 + r ≡ length_at s
-length_49 s r k e = rw k (ap (λ (x : ℕ). 2 + x) e)
-
-pub length_50 : (s : List ℕ) (r : ℕ) → get_or s 0 0 ≡ 50 → r ≡ code_length (drop 2 s) → 2 + r ≡ length_at s
-length_50 s r k e = rw k (ap (λ (x : ℕ). 2 + x) e)

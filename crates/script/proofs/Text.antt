@@ -92,13 +92,13 @@ module _ (kind : ℕ) (k : Levels) where
 
   no_lines : (t : Bool) (l : ℕ) (fs : List Frame) → cond t (accepted []) (refused 5 l) ≡ accepted fs → Lined [] fs
   no_lines true l fs e = let h : [] ≡ fs = cc in subst (Lined []) h (record { bytes = []; is = refl; held = tt })
-  no_lines false l fs e = let y : ◌≡◌ {A = ℕ} 0 1 = cc in absurd (omega arith)
+  no_lines false l fs e = cc
 
   one_line : (bs : List ℕ) (xs : List (Option (List ℕ))) (p : Phase) (n : Seen) (fs : List Frame) (o : Option Read) → frame_of bs ≡ o
       → ((p : Phase) (n : Seen) (fs : List Frame) → read_lines kind k p n (map whole_line xs) ≡ accepted fs → Lined xs fs)
       → read_lines kind k p n (or_fault_2 o ∷ map whole_line xs) ≡ accepted fs → Lined (some bs ∷ xs) fs
   unfolding read_lines fault
-  one_line bs xs p n fs none eo ih e = let y : ◌≡◌ {A = ℕ} 0 1 = cc in absurd (omega arith)
+  one_line bs xs p n fs none eo ih e = cc
   one_line bs xs p n fs (some r) eo ih e =
       let later = read_lines kind k (phase_after p r.frame) (seen_after n r.frame) (map whole_line xs) in
       let j = judged_accepted (suc n.frames) r.frame (fault kind k p n r) later fs e in
@@ -113,7 +113,7 @@ module _ (kind : ℕ) (k : Levels) where
   lined : (xs : List (Option (List ℕ))) (p : Phase) (n : Seen) (fs : List Frame) → read_lines kind k p n (map whole_line xs) ≡ accepted fs → Lined xs fs
   unfolding read_lines
   lined [] p n fs e = no_lines (is_ended p) (suc n.frames) fs e
-  lined (none ∷ xs) p n fs e = let y : ◌≡◌ {A = ℕ} 0 1 = cc in absurd (omega arith)
+  lined (none ∷ xs) p n fs e = cc
   lined (some bs ∷ xs) p n fs e = one_line bs xs p n fs (frame_of bs) refl (lined xs) e
 
 held_bytes : (bss : List (List ℕ)) (fs : List Frame) → AllByRecursion Sized bss → Held bss fs → (map frame_bytes fs ≡ bss) × AllByRecursion Writable fs

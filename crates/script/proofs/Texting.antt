@@ -9,10 +9,10 @@ use Rattle.codec.specs.Frames.Frame.{skip}
 use Rattle.codec.specs.Writable.{Writable}
 use Rattle.script.proofs.Text.{sized}
 use Rattle.codec.specs.Slots.{padded}
-use Rattle.script.specs.Slabs.{slots_of, slab_of}
+use Rattle.script.specs.Slabs.{SlotFound, slots_of, slab_of}
 use Rattle.script.specs.Findings.{length_at}
 use Rattle.script.specs.Text.{text_of}
-use Rattle.script.specs.Writings.{AllPut, LinePut, Slotted, line_of}
+use Rattle.script.specs.Writings.{LinePut, Slotted, line_of}
 use Rattle.script.proofs.SlotTakings.{fronts}
 
 pub digits_more : (bs cs : List ℕ) → digits (bs ++ cs) ≡ digits bs ++ digits cs
@@ -25,56 +25,66 @@ unfolding digits
 digits_long [] = refl
 digits_long (b ∷ bs) = omega (arith, digits_long bs)
 
--- Two digits more.
-pub byte_again : (bytes start out : List ℕ) (n i at d e : ℕ) → i < length bytes → at ≡ n + 2 * i → n + 2 * length bytes < length start → n ≤ length start
-    → d ≡ digit (get_or bytes i 0 / 16) → e ≡ digit (get_or bytes i 0 % 16)
-    → out ≡ take n start ++ (digits (take i bytes) ++ drop at start)
-    → set (set out at d) (at + 1) e ≡ take n start ++ (digits (take (i + 1) bytes) ++ drop (at + 2) start)
-unfolding digits
-byte_again bytes start out n i at d e h ea room low ed ee was =
-    let a : List ℕ = take n start in
-    let p : List ℕ = a ++ digits (take i bytes) in
-    let x : ℕ = get_or start at 0 in
-    let y : ℕ = get_or start (at + 1) 0 in
-    let r : List ℕ = drop (at + 1 + 1) start in
-    let two : at + 1 + 1 ≡ at + 2 = omega arith in
-    let lt = length-take-le n start low in
-    let li = length-take-le i bytes (omega arith) in
-    let long : length p ≡ at = length-append a (digits (take i bytes)) ∙ omega (arith, digits_long (take i bytes)) in
-    let long' : length (p ++ (d ∷ [])) ≡ at + 1 = length-append p (d ∷ []) ∙ omega arith in
-    let begun : out ≡ p ++ (x ∷ y ∷ r) =
-    was ∙ sym (append_assoc a (digits (take i bytes)) (drop at start))
-    ∙ ap (λ (z : List ℕ). p ++ z) (drop_more start at 0 (omega arith) ∙ ap (λ (z : List ℕ). x ∷ z) (drop_more start (at + 1) 0 (omega arith))) in
-    ap (λ (z : List ℕ). set (set z at d) (at + 1) e) begun
-    ∙ ap (λ (z : List ℕ). set z (at + 1) e) (set_at p x (y ∷ r) d at long ∙ sym (append_assoc p (d ∷ []) (y ∷ r)))
-    ∙ set_at (p ++ (d ∷ [])) y r e (at + 1) long'
-    ∙ append_assoc p (d ∷ []) (e ∷ r)
-    ∙ append_assoc a (digits (take i bytes)) (d ∷ e ∷ r)
-    ∙ ap (λ (z : List ℕ). a ++ z)
-    ((λ j. digits (take i bytes) ++ (ed j ∷ ee j ∷ drop (two j) start))
-    ∙ sym (append_assoc (digits (take i bytes)) (digits (get_or bytes i 0 ∷ [])) (drop (at + 2) start))
-    ∙ ap (λ (z : List ℕ). z ++ drop (at + 2) start) (sym (digits_more (take i bytes) (get_or bytes i 0 ∷ [])) ∙ ap digits (sym (take_more bytes i 0 h))))
+module _ (bytes start : List ℕ) (n : ℕ) where
+  pub no_room : length start ≤ n + 2 * length bytes → length start < n + length (line_of bytes)
+  no_room h = omega (arith, length-append (digits bytes) (10 ∷ []), digits_long bytes)
 
-pub line_ends : (bytes start out : List ℕ) (n i at : ℕ) → length bytes ≤ i → i ≤ length bytes → at ≡ n + 2 * i → n + 2 * length bytes < length start → n ≤ length start
-    → out ≡ take n start ++ (digits (take i bytes) ++ drop at start) → LinePut bytes start (set out at 10) n (at + 1)
-line_ends bytes start out n i at h h' ea room low was =
-    let a : List ℕ = take n start in
-    let p : List ℕ = a ++ digits bytes in
-    let lt = length-take-le n start low in
-    let long : length p ≡ at = length-append a (digits bytes) ∙ omega (arith, digits_long bytes) in
-    let begun : out ≡ p ++ (get_or start at 0 ∷ drop (at + 1) start) =
-    was ∙ ap (λ (z : List ℕ). a ++ (digits z ++ drop at start)) (take_all i bytes h) ∙ sym (append_assoc a (digits bytes) (drop at start))
-    ∙ ap (λ (z : List ℕ). p ++ z) (drop_more start at 0 (omega arith)) in
-    record {
-      more = omega (arith, length-append (digits bytes) (10 ∷ []), digits_long bytes);
-      within = omega arith;
-      is = ap (λ (z : List ℕ). set z at 10) begun ∙ set_at p (get_or start at 0) (drop (at + 1) start) 10 at long
-          ∙ append_assoc a (digits bytes) (10 ∷ drop (at + 1) start)
-          ∙ ap (λ (z : List ℕ). a ++ z) (sym (append_assoc (digits bytes) (10 ∷ []) (drop (at + 1) start)));
-    }
+  -- The digits of the first i bytes are put.
+  abbrev pub DigitsPut : List ℕ → ℕ → Type 0
+  DigitsPut out i = out ≡ take n start ++ (digits (take i bytes) ++ drop (n + 2 * i) start)
 
-pub no_room : (bytes start : List ℕ) (n : ℕ) → n ≤ length start → length start - n < 2 * length bytes + 1 → length start < n + length (line_of bytes)
-no_room bytes start n low h = omega (arith, length-append (digits bytes) (10 ∷ []), digits_long bytes)
+  pub none_put : DigitsPut start 0
+  unfolding digits
+  none_put = sym (take-append-drop n start) ∙ ap (λ (m : ℕ). take n start ++ drop m start) (omega arith)
+
+  module _ (room : n + 2 * length bytes < length start) where
+    -- Two digits more.
+    pub byte_put : (out : List ℕ) (i d e : ℕ) → i < length bytes → d ≡ digit (get_or bytes i 0 / 16) → e ≡ digit (get_or bytes i 0 % 16)
+        → DigitsPut out i → DigitsPut (set (set out (n + 2 * i) d) (n + 2 * i + 1) e) (i + 1)
+    unfolding digits
+    byte_put out i d e h ed ee was =
+        let at = n + 2 * i in
+        let a : List ℕ = take n start in
+        let p : List ℕ = a ++ digits (take i bytes) in
+        let x : ℕ = get_or start at 0 in
+        let y : ℕ = get_or start (at + 1) 0 in
+        let r : List ℕ = drop (at + 1 + 1) start in
+        let two : at + 1 + 1 ≡ n + 2 * (i + 1) = omega arith in
+        let lt = length-take-le n start (omega arith) in
+        let li = length-take-le i bytes (omega arith) in
+        let long : length p ≡ at = length-append a (digits (take i bytes)) ∙ omega (arith, digits_long (take i bytes)) in
+        let long' : length (p ++ (d ∷ [])) ≡ at + 1 = length-append p (d ∷ []) ∙ omega arith in
+        let begun : out ≡ p ++ (x ∷ y ∷ r) =
+        was ∙ sym (append_assoc a (digits (take i bytes)) (drop at start))
+        ∙ ap (λ (z : List ℕ). p ++ z) (drop_more start at 0 (omega arith) ∙ ap (λ (z : List ℕ). x ∷ z) (drop_more start (at + 1) 0 (omega arith))) in
+        ap (λ (z : List ℕ). set (set z at d) (at + 1) e) begun
+        ∙ ap (λ (z : List ℕ). set z (at + 1) e) (set_at p x (y ∷ r) d at long ∙ sym (append_assoc p (d ∷ []) (y ∷ r)))
+        ∙ set_at (p ++ (d ∷ [])) y r e (at + 1) long'
+        ∙ append_assoc p (d ∷ []) (e ∷ r)
+        ∙ append_assoc a (digits (take i bytes)) (d ∷ e ∷ r)
+        ∙ ap (λ (z : List ℕ). a ++ z)
+        ((λ j. digits (take i bytes) ++ (ed j ∷ ee j ∷ drop (two j) start))
+        ∙ sym (append_assoc (digits (take i bytes)) (digits (get_or bytes i 0 ∷ [])) (drop (n + 2 * (i + 1)) start))
+        ∙ ap (λ (z : List ℕ). z ++ drop (n + 2 * (i + 1)) start) (sym (digits_more (take i bytes) (get_or bytes i 0 ∷ [])) ∙ ap digits (sym (take_more bytes i 0 h))))
+
+    -- All of them, and the line's end.
+    pub line_put : (out : List ℕ) (i : ℕ) → i ≡ length bytes → DigitsPut out i → LinePut bytes start (set out (n + 2 * length bytes) 10) n (n + 2 * length bytes + 1)
+    line_put out i h was =
+        let at = n + 2 * length bytes in
+        let a : List ℕ = take n start in
+        let p : List ℕ = a ++ digits bytes in
+        let lt = length-take-le n start (omega arith) in
+        let long : length p ≡ at = length-append a (digits bytes) ∙ omega (arith, digits_long bytes) in
+        let begun : out ≡ p ++ (get_or start at 0 ∷ drop (at + 1) start) =
+        was ∙ (λ j. a ++ (digits ((ap (λ m. take m bytes) h ∙ take_all (length bytes) bytes (omega arith)) j) ++ drop (n + 2 * h j) start)) ∙ sym (append_assoc a (digits bytes) (drop at start))
+        ∙ ap (λ (z : List ℕ). p ++ z) (drop_more start at 0 (omega arith)) in
+        record {
+          more = omega (arith, length-append (digits bytes) (10 ∷ []), digits_long bytes);
+          within = omega arith;
+          is = ap (λ (z : List ℕ). set z at 10) begun ∙ set_at p (get_or start at 0) (drop (at + 1) start) 10 at long
+              ∙ append_assoc a (digits bytes) (10 ∷ drop (at + 1) start)
+              ∙ ap (λ (z : List ℕ). a ++ z) (sym (append_assoc (digits bytes) (10 ∷ []) (drop (at + 1) start)));
+        }
 
 -- Frames
 
@@ -147,13 +157,11 @@ pub writable_number : (fs : List Frame) (i : ℕ) → AllByRecursion Writable fs
 writable_number fs i w h = middle (take i fs) (get_or fs i skip) (drop (i + 1) fs) (subst (AllByRecursion Writable) (parted fs i h) w)
 
 -- The bytes of frame i, as the slot's front.
-pub front_is : (slab bytes : List ℕ) (fs : List Frame) (i c w : ℕ) → i < c → c ≤ 512 → w ≡ 51 → Slotted slab c fs
-    → bytes ≡ take (length_at (take w (drop (i * 51) slab))) (take w (drop (i * 51) slab)) → bytes ≡ frame_bytes (get_or fs i skip)
-front_is slab bytes fs i c w h few ew s e =
+pub front_is : (slab slot bytes : List ℕ) (fs : List Frame) (i c : ℕ) → i < c → c ≤ 512 → Slotted slab c fs → SlotFound slab i slot → bytes ≡ take (length_at slot) slot → bytes ≡ frame_bytes (get_or fs i skip)
+front_is slab slot bytes fs i c h few s f e =
     let n = s.count in
     let l : i < length fs = omega arith in
-    e ∙ ap (λ (m : ℕ). take (length_at (take m (drop (i * 51) slab))) (take m (drop (i * 51) slab))) ew
-    ∙ (fronts (take 51 (drop (i * 51) slab)) (get_or fs i skip) (writable_number fs i s.writable l) (slot_number slab fs i s.writable l (omega arith) s.slots)).bytes
+    e ∙ (fronts slot (get_or fs i skip) (writable_number fs i s.writable l) (f.is ∙ slot_number slab fs i s.writable l (omega arith) s.slots)).bytes
 
 text_step : (fs : List Frame) (i : ℕ) → i < length fs → text_of (take (i + 1) fs) ≡ text_of (take i fs) ++ line_of (frame_bytes (get_or fs i skip))
 text_step fs i h = ap text_of (take_more fs i skip h) ∙ text_more (take i fs) (get_or fs i skip ∷ []) ∙ ap (λ (r : List ℕ). text_of (take i fs) ++ r) (text_one (get_or fs i skip))
@@ -178,11 +186,6 @@ frame_again fs bytes start out end i n m h e s w =
           ∙ sym (append_assoc t l (drop m start))
           ∙ ap (λ (x : List ℕ). x ++ drop m start) step;
     }
-
-pub frames_done : (fs : List Frame) (start out : List ℕ) (i n : ℕ) → length fs ≤ i → PutSoFar fs start out i n → AllPut fs start out n
-frames_done fs start out i n h s =
-    let e = take_all i fs h in
-    record { long = s.long ∙ ap (λ (r : List Frame). length (text_of r)) e; is = s.is ∙ ap (λ (r : List Frame). text_of r ++ drop n start) e }
 
 pub frames_none : (fs : List Frame) (bytes start out : List ℕ) (i n : ℕ) → i < length fs → bytes ≡ frame_bytes (get_or fs i skip) → length out ≡ length start → PutSoFar fs start out i n → length out < n + length (line_of bytes) → length start < length (text_of fs)
 frames_none fs bytes start out i n h e same s w =

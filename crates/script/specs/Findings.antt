@@ -1,11 +1,11 @@
 -- A slot of any bytes: how long the frame at its front is.
-use Rattle.std.specs.Prelude.{ℕ, ◌+◌, Bool, true, cond, ◌&&◌, List, [], ◌∷◌, length, drop, ◌==◌, slice_index}
+use Rattle.std.specs.Prelude.{ℕ, ◌+◌, Bool, cond, List, length, drop, ◌==◌, slice_index}
+use Rattle.std.specs.List.{list_all}
 use Rattle.codec.specs.Expressions.{decode, expr_bytes}
 
 -- Nothing but zeros.
 abbrev pub all_zero : List ℕ → Bool
-all_zero [] = true
-all_zero (b ∷ bs) = b == 0 && all_zero bs
+all_zero bs = list_all (λ b. b == 0) bs
 
 -- How many bytes of a code can be read as operations; padding cannot, since code 00 is unknown.
 abbrev pub code_length : List ℕ → ℕ

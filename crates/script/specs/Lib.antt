@@ -6,6 +6,7 @@ pub mod Grown
 pub mod Findings
 pub mod Slabs
 pub mod Refusals
+pub mod Meanings
 pub mod Stages
 pub mod Takings
 pub mod Nexts

@@ -1,5 +1,5 @@
 -- Script slabs: 512 slots of 51 bytes, a frame a slot, and which script a slab holds.
-use Rattle.std.specs.Prelude.{◌≡◌, ℕ, zero, suc, ◌+◌, ◌*◌, ◌≤◌, cond, ◌&&◌, List, [], ◌∷◌, length, take, drop, nat_le, nat_lt}
+use Rattle.std.specs.Prelude.{◌≡◌, ℕ, zero, suc, ◌+◌, ◌*◌, ◌<◌, ◌≤◌, cond, ◌&&◌, List, [], ◌∷◌, length, take, drop, nat_le, nat_lt}
 use Rattle.std.proofs.Math.Option.{Option as Perhaps, none, some}
 use Rattle.std.specs.List.{flat_map}
 use Rattle.lattice.specs.Levels.{Levels}
@@ -36,6 +36,13 @@ pub record Declares (fs : List Frame) (d : Declarations) : Type 0 where
 -- Slot i of a slab.
 abbrev pub slot_at : List ℕ → ℕ → List ℕ
 slot_at slab i = take 51 (drop (i * 51) slab)
+
+-- Slot i, one of 512, whole in the slab.
+pub record SlotFound (slab : List ℕ) (i : ℕ) (slot : List ℕ) : Type 0 where
+  pub few : i < 512
+  pub room : i * 51 + 51 ≤ length slab
+  pub is : slot ≡ slot_at slab i
+  pub long : length slot ≡ 51
 
 -- The frame at the front of slot i; none past slot 511 and past the slab.
 abbrev pub frame_in : List ℕ → ℕ → Perhaps Read

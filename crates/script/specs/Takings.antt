@@ -3,34 +3,29 @@ use Rattle.std.specs.Prelude.{◌≡◌, ℕ, suc, ◌*◌, ◌<◌, ◌≤◌, 
 use Rattle.std.proofs.Math.Option.{Option as Perhaps, none, some}
 use Rattle.std.proofs.Common.{inl, inr}
 use Rattle.lattice.specs.Levels.{Levels}
-use Rattle.codec.specs.Lines.{line_bytes}
 use Rattle.codec.specs.Frames.{Frame, Read, frame_bytes}
 use Rattle.script.specs.Format.{nothing_seen, fault, read_script, through}
 use Rattle.script.specs.Format.Verdict.{refused, accepted}
-use Rattle.script.specs.declared.faults.LineFault.{LineFault}
 use Rattle.script.specs.declared.faults.ScriptFault.{ScriptFault}
 use Rattle.codec.specs.declared.lines.Slot.{Slot}
 use Rattle.script.specs.declared.state.State.{State}
-use Rattle.codec.specs.Slots.{Padded, front, padded}
+use Rattle.codec.specs.Slots.{padded}
 use Rattle.script.specs.Stages.{Stepped, phase_of, seen_of}
 use Rattle.script.specs.Slabs.{slots_of}
 use Rattle.script.specs.Refusals.{refusal, script_refusal}
-
--- A line's slot, or none.
-pub record LineSlot (line : List ℕ) (s : Slot) : Type 0 where
-  pub bytes : line_bytes (some line) ≡ some (front s)
-  pub zeros : Padded s
-
--- A line that is no frame's, at its number.
-pub record NoSlot (line : List ℕ) (number : ℕ) (e : LineFault) : Type 0 where
-  pub none_is : line_bytes (some line) ≡ none
-  pub at : e.line ≡ number
 
 module _ (kind : ℕ) (k : Levels) where
   -- The fault of a line.
   abbrev pub line_fault : State → ℕ ⊎ Read → Perhaps ℕ
   line_fault s (inl number) = some number
   line_fault s (inr r) = fault kind k (phase_of s) (seen_of s) r
+
+  -- A line without fault, and t is the state behind its frame.
+  pub record Behind (s : State) (l : ℕ ⊎ Read) (t : State) : Type 0 where
+    pub read : Read
+    pub is : l ≡ inr read
+    pub passes : fault kind k (phase_of s) (seen_of s) read ≡ none
+    pub stepped : Stepped s read.frame t
 
   -- A line without fault: its frame is in the slot, and t is the state behind it.
   pub record Took (s : State) (l : ℕ ⊎ Read) (t : State) (slot : Slot) : Type 0 where

@@ -1,8 +1,11 @@
 // Refusals of three layers, each standing whole inside the next.
-ghost use Rattle.std.specs.Prelude.{◌≡◌};
+ghost use Rattle.std.specs.Prelude.{◌≡◌, Some};
 ghost use Rattle.script.specs.declared.faults.RunFault.TheVariants.{InScript};
 ghost use Rattle.script.specs.declared.faults.ScriptFault.TheVariants.{InLine};
-ghost use Rattle.script.specs.Refusals.{at_run, cause_number, line_refusal, run_refusal, script_refusal};
+ghost use Rattle.script.specs.Meanings.{cause_meaning, layer_name, line_meaning, run_meaning, script_meaning};
+ghost use Rattle.script.specs.Refusals.{cause_number, line_refusal, run_refusal, script_refusal};
+
+use std::fmt;
 
 // The layer that refused: one line, the script, or a call.
 #[derive(Clone, Copy, Debug, PartialEq)]
@@ -12,7 +15,8 @@ pub enum Layer {
     Run,
 }
 
-// What a refusal tells. Numbers 1 to 8 stand at a line, counted from 1; those of calls at none.
+// What a refusal tells. Numbers 1 to 8 stand at a line, counted from 1; those of calls at none. The number is the format's, and no enum:
+// the enums are the faults, and this is what they tell.
 #[derive(Clone, Copy, Debug, PartialEq)]
 pub struct Refusal {
     pub number: u8,
@@ -93,11 +97,12 @@ impl From<LineFault> for RunFault {
     }
 }
 
-impl Cause {
-    pub fn number(self) -> u8
-        ensures { result ≡ cause_number self }
-    {
-        match self {
+// The number of what a frame is refused for.
+impl From<Cause> for u8 {
+    ghost from_gives = { λ cause r. r ≡ cause_number cause };
+
+    fn from(cause: Cause) -> Self {
+        match cause {
             Cause::Shape => 2,
             Cause::Range => 3,
             Cause::Level => 4,
@@ -109,26 +114,27 @@ impl Cause {
     }
 }
 
-impl LineFault {
-    pub fn refusal(self) -> Refusal
-        ensures { result ≡ line_refusal self }
-    {
-        Refusal {
+// What each fault tells.
+impl From<LineFault> for Refusal {
+    ghost from_gives = { λ fault r. r ≡ line_refusal fault };
+
+    fn from(fault: LineFault) -> Self {
+        Self {
             number: 1,
-            line: Some(self.line),
+            line: Some(fault.line),
             layer: Layer::Line,
         }
     }
 }
 
-impl ScriptFault {
-    pub fn refusal(self) -> Refusal
-        ensures { result ≡ script_refusal self }
-    {
-        match self {
-            ScriptFault::InLine(fault) => fault.refusal(),
-            ScriptFault::InFrame { cause, line } => Refusal {
-                number: cause.number(),
+impl From<ScriptFault> for Refusal {
+    ghost from_gives = { λ fault r. r ≡ script_refusal fault };
+
+    fn from(fault: ScriptFault) -> Self {
+        match fault {
+            ScriptFault::InLine(fault) => Self::from(fault),
+            ScriptFault::InFrame { cause, line } => Self {
+                number: u8::from(cause),
                 line: Some(line),
                 layer: Layer::Script,
             },
@@ -136,32 +142,90 @@ impl ScriptFault {
     }
 }
 
-// A refusal of a call on a run, which stands at no line.
-fn of_run(number: u8) -> Refusal
-    ensures { result ≡ at_run number }
-{
-    let layer = Layer::Run;
-    Refusal {
-        number,
-        line: None,
-        layer,
+impl From<RunFault> for Refusal {
+    ghost from_gives = { λ fault r. r ≡ run_refusal fault };
+
+    fn from(fault: RunFault) -> Self {
+        let number = match fault {
+            RunFault::InScript(fault) => return Self::from(fault),
+            RunFault::NoState => 9,
+            RunFault::NoSuch => 10,
+            RunFault::TrackFull => 11,
+            RunFault::OutOfTurns => 12,
+        };
+        Self {
+            number,
+            line: None,
+            layer: Layer::Run,
+        }
     }
 }
 
-impl RunFault {
-    pub fn refusal(self) -> Refusal
-        ensures { result ≡ run_refusal self }
-    {
+// The layers and the faults in plain words, as the programs print them.
+
+impl fmt::Display for Layer {
+    ghost output = { λ layer. Some (layer_name layer) };
+
+    fn fmt<W: fmt::Write>(&self, f: &mut fmt::Formatter<W>) -> fmt::Result {
+        f.write_str(match self {
+            Layer::Line => "line",
+            Layer::Script => "script",
+            Layer::Run => "run",
+        })
+    }
+}
+
+impl fmt::Display for LineFault {
+    ghost output = { λ fault. Some (line_meaning fault) };
+
+    fn fmt<W: fmt::Write>(&self, f: &mut fmt::Formatter<W>) -> fmt::Result {
+        f.write_str(
+            "the line is empty, has an odd number of digits or more than 102, has a byte that is no digit 0-9 or A-F, or does not end in a newline",
+        )
+    }
+}
+
+impl fmt::Display for Cause {
+    ghost output = { λ cause. Some (cause_meaning cause) };
+
+    fn fmt<W: fmt::Write>(&self, f: &mut fmt::Formatter<W>) -> fmt::Result {
+        f.write_str(match self {
+            Cause::Shape => "the frame's kind is unknown here, or its length is not the kind's",
+            Cause::Range =>
+                "a field of the header is outside its range, or a capacity exceeds 2,048 samples or 512 entries in all",
+            Cause::Level => "a level is not one of the header's kind of levels",
+            Cause::Order =>
+                "the frame is out of order, a block is unmatched, a count is wrong, or lines are missing or left over",
+            Cause::Undeclared => "a variable, track, channel or lock is not declared",
+            Cause::Expression =>
+                "an expression has an unknown or cut code, finds its stack empty, holds more than 16 numbers, or does not leave one",
+            Cause::Limit =>
+                "blocks nest more than 16 deep, there are more than 512 frames, or the input has more than 16,384 bytes",
+        })
+    }
+}
+
+impl fmt::Display for ScriptFault {
+    ghost output = { λ fault. Some (script_meaning fault) };
+
+    fn fmt<W: fmt::Write>(&self, f: &mut fmt::Formatter<W>) -> fmt::Result {
         match self {
-            RunFault::InScript(fault) => fault.refusal(),
-            RunFault::NoState => Refusal {
-                number: 9,
-                line: None,
-                layer: Layer::Run,
-            },
-            RunFault::NoSuch => of_run(10),
-            RunFault::TrackFull => of_run(11),
-            RunFault::OutOfTurns => of_run(12),
+            ScriptFault::InLine(fault) => fault.fmt(f),
+            ScriptFault::InFrame { cause, .. } => cause.fmt(f),
         }
+    }
+}
+
+impl fmt::Display for RunFault {
+    ghost output = { λ fault. Some (run_meaning fault) };
+
+    fn fmt<W: fmt::Write>(&self, f: &mut fmt::Formatter<W>) -> fmt::Result {
+        f.write_str(match self {
+            RunFault::InScript(fault) => return fault.fmt(f),
+            RunFault::NoState => "the memory lent is too short, or holds no script",
+            RunFault::NoSuch => "there is no such track, channel, thread or entry",
+            RunFault::TrackFull => "the track is full",
+            RunFault::OutOfTurns => "the last turn that a run may have was given",
+        })
     }
 }

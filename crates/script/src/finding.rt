@@ -1,27 +1,33 @@
 // Finding a script in a slab of any bytes: the frame at the front of a slot, and zeros behind it.
-ghost use Rattle.std.specs.Prelude.{◌≡◌, ◌*◌, ◌≤◌, length, take, MatchOption};
+ghost use Rattle.std.specs.Prelude.{◌≡◌, ◌+◌, ◌*◌, ◌<◌, ◌≤◌, length, take, unwrap_or, MatchOption};
 ghost use Rattle.codec.specs.Expressions.{expr_bytes, decode, op_bytes};
 ghost use Rattle.script.specs.Findings.{all_zero, length_at};
 ghost use Rattle.script.specs.Nexts.{Next, NoNext};
 ghost use Rattle.script.specs.Promises.{FrameFound, HoldsGives};
+ghost use Rattle.script.specs.Slabs.{SlotFound};
 ghost use Rattle.codec.specs.Operations.{op_of};
 
 use crate::state::State;
 use crate::{Declarations, FRAMES, SLAB, SLOT};
-use codec::expressions::{Op, first_op};
+use codec::expressions::{Op, Ops};
 use codec::frames::{Frame, read_frame};
 use lattice::Lattice;
+
+// Slot i of a slab, counted from 0; None past slot 511 and past the slab.
+pub(crate) fn slot_in(slab: &[u8], i: u16) -> Option<&[u8; SLOT]>
+    ensures { MatchOption result (i < 512 → length slab.now < i * 51 + 51) (λ s. SlotFound slab.now i s.now) }
+{
+    if i >= FRAMES {
+        return None;
+    }
+    slab.get(usize::from(i) * SLOT..)?.first_chunk()
+}
 
 // Whether there is nothing but zeros.
 fn is_zero(bytes: &[u8]) -> bool
     ensures { result ≡ all_zero bytes.now }
 {
-    for b in bytes {
-        if *b != 0 {
-            return false;
-        }
-    }
-    true
+    bytes.iter().all(|b| *b == 0)
 }
 
 // How many bytes an operation has.
@@ -42,103 +48,61 @@ fn code_length(code: &[u8]) -> usize
     ensures length { result ≡ length (expr_bytes (decode 0 code.now).ops) }
     ensures short { result ≤ 5 * length code.now }
 {
-    let mut rest = code;
-    let mut n = 0;
-    while let Some((op, after)) = first_op(rest) {
-        n += op_length(op);
-        rest = after;
-    }
-    n
+    Ops::new(code).map(op_length).sum()
 }
 
-// How many bytes the frame at the front of a slot has; 0 where there is none.
-fn frame_length(slot: &[u8]) -> usize
-    requires { length slot.now ≡ 51 }
-    ensures { result ≡ length_at slot.now }
+// How many bytes the frame at the front of a slot has; None where its kind is unknown.
+fn frame_length(slot: &[u8; SLOT]) -> Option<usize>
+    ensures { unwrap_or result 0 ≡ length_at slot.now }
 {
-    match slot[0] {
-        0x01 | 0x02 | 0x03 => 8,
+    let slot: &[u8] = slot;
+    Some(match slot[0] {
+        0x01..=0x03 => 8,
         0x20 => 2,
         0x21 | 0x30 | 0x41 | 0x42 | 0x44 | 0x46 => 1,
-        0x31 => 2 + code_length(&slot[2..]),
-        0x32 => 2 + code_length(&slot[2..]),
+        0x31 | 0x32 => 2 + code_length(&slot[2..]),
         0x40 | 0x43 => 1 + code_length(&slot[1..]),
         0x45 => 3 + code_length(&slot[3..]),
         0x7F => 3,
-        _ => 0,
-    }
+        _ => return None,
+    })
 }
 
-// The bytes of the frame at the front of a slot.
-pub(crate) fn front_of(slot: &[u8]) -> &[u8]
-    requires { length slot.now ≡ 51 }
+// The bytes of the frame at the front of a slot; none where there is no frame, and the whole slot where it would be longer than that.
+pub(crate) fn front_of(slot: &[u8; SLOT]) -> &[u8]
     ensures bytes { result.now ≡ take (length_at slot.now) slot.now }
     ensures short { length result.now ≤ 51 }
 {
-    let len = frame_length(slot);
-    if len < SLOT { &slot[0..len] } else { slot }
+    let len = frame_length(slot).unwrap_or(0);
+    slot.get(..len).unwrap_or(slot)
 }
 
-// The state behind the frame in a slot; None where it holds none that passes its tests, with zeros behind it.
-fn next_slot<K: Lattice>(state: State, slot: &[u8]) -> Option<State>
-    requires long { length slot.now ≡ 51 }
-    requires deep { state.depth ≤ 16 }
+// The state behind the frame in a slot; None where no frame is there, the frame fails one of its tests, or not all behind it is zero.
+fn next_slot<K: Lattice>(state: State, slot: &[u8; SLOT]) -> Option<State>
     ensures { MatchOption result (NoNext K.kind K.order state slot.now) (Next K.kind K.order state slot.now) }
 {
-    let len = frame_length(slot);
-    if len > SLOT {
+    let (front, behind) = slot.split_at_checked(frame_length(slot)?)?;
+    if !is_zero(behind) {
         return None;
     }
-    if !is_zero(&slot[len..]) {
-        return None;
-    }
-    match read_frame(&slot[0..len]) {
-        Some(frame) => match state.judge::<K>(frame) {
-            Ok(next) => Some(next),
-            Err(_) => None,
-        },
-        None => None,
-    }
+    state.take::<K>(front).ok()
 }
 
 // What the script declares that a slab of any bytes holds; None where it holds no script of the kind K.
 pub fn holds<K: Lattice>(slab: &[u8]) -> Option<Declarations>
     ensures { HoldsGives K.kind K.order slab.now result }
 {
-    if slab.len() < SLAB {
-        return None;
-    }
     let mut state = State::at_first();
     while !state.ended() {
-        if state.frames >= FRAMES {
-            return None;
-        }
-        let at = state.frames as usize * SLOT;
-        match next_slot::<K>(state, &slab[at..at + SLOT]) {
-            Some(next) => {
-                state = next;
-            }
-            None => return None,
-        }
+        state = next_slot::<K>(state, slot_in(slab, state.frames)?)?;
     }
-    let used = state.frames as usize * SLOT;
-    if is_zero(&slab[used..SLAB]) {
-        Some(state.declarations())
-    } else {
-        None
-    }
+    let used = usize::from(state.frames) * SLOT;
+    is_zero(slab.get(used..SLAB)?).then_some(state.declarations())
 }
 
 // The frame in a slot of a slab, counted from 0; None where there is no such slot or it begins with no frame.
 pub fn frame_at(slab: &[u8], slot: u16) -> Option<Frame<'_>>
     ensures { FrameFound slab.now slot result }
 {
-    let at = slot as usize * SLOT;
-    if slot >= FRAMES {
-        return None;
-    }
-    if slab.len() < at + SLOT {
-        return None;
-    }
-    read_frame(front_of(&slab[at..at + SLOT]))
+    read_frame(front_of(slot_in(slab, slot)?))
 }

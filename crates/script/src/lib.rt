@@ -7,9 +7,11 @@ pub use crate::finding::{frame_at, holds};
 pub use crate::reading::{kind_named, read};
 pub use crate::writing::write;
 use codec::frames::Head;
+use codec::lines::BYTES;
 use lattice::Lattice;
 use std::marker::PhantomData;
 
+mod blocks;
 pub mod faults;
 mod finding;
 mod reading;
@@ -20,10 +22,10 @@ mod writing;
 pub const FRAMES: u16 = 512;
 
 // The bytes of a slot, which holds one frame.
-pub const SLOT: usize = 51;
+pub const SLOT: usize = BYTES;
 
 // The bytes of a script slab: a slot for each frame.
-pub const SLAB: usize = 26112;
+pub const SLAB: usize = FRAMES as usize * SLOT;
 
 // The most samples that all tracks hold together, and the most entries that all channels do.
 pub const SAMPLES: u32 = 2048;

@@ -6,7 +6,7 @@ ghost use Rattle.codec.specs.Shapes.{read_of};
 ghost use Rattle.codec.specs.Slots.{perhaps};
 ghost use Rattle.script.specs.Format.{kind_in, whole_line};
 ghost use Rattle.script.specs.Promises.{NamesKind, ReadGives, Reads};
-ghost use Rattle.script.specs.Takings.{Fails, Fills, LineSlot, NoSlot, Refuses, Took};
+ghost use Rattle.script.specs.Takings.{Fails, Fills, Refuses, Took};
 
 use crate::faults::{Cause, LineFault, RunFault, ScriptFault};
 use crate::state::State;
@@ -16,37 +16,20 @@ use codec::lines::{Slot, read_line, split_line};
 use lattice::Lattice;
 use std::marker::PhantomData;
 
-// The bytes of the line of this number.
-fn slot_of(line: &[u8], number: u16) -> Result<Slot, LineFault>
-    ensures { MatchResult result (λ s. LineSlot line.now s) (λ e. NoSlot line.now number e) }
-{
-    match read_line(line) {
-        Some(slot) => Ok(slot),
-        None => Err(LineFault { line: number }),
-    }
-}
-
 // A line's frame in its slot, and the state behind it.
 fn take_line<K: Lattice>(state: State, line: &[u8]) -> Result<(State, Slot), ScriptFault>
-    requires deep { state.depth ≤ 16 }
-    requires few { state.frames ≤ 512 }
+    requires { state.frames ≤ 512 }
     ensures { MatchResult result (λ p. Took K.kind K.order state (whole_line (line_bytes (some line.now))) p.0 p.1) (Refuses K.kind K.order state (whole_line (line_bytes (some line.now)))) }
 {
     let number = state.frames + 1;
-    let slot = slot_of(line, number)?;
-    match read_frame(&slot.bytes[0..slot.len]) {
-        Some(frame) => match state.judge::<K>(frame) {
-            Ok(next) => Ok((next, slot)),
-            Err(cause) => Err(ScriptFault::InFrame {
-                cause,
-                line: number,
-            }),
-        },
-        None => Err(ScriptFault::InFrame {
-            cause: Cause::Shape,
+    let slot = read_line(line).ok_or(LineFault { line: number })?;
+    let next = state
+        .take::<K>(&slot.bytes[..slot.len])
+        .map_err(|cause| ScriptFault::InFrame {
+            cause,
             line: number,
-        }),
-    }
+        })?;
+    Ok((next, slot))
 }
 
 // Puts the frames of the lines into the first slots of a slab, to the first fault.
@@ -56,30 +39,24 @@ fn fill<K: Lattice>(lines: &[u8], slab: &mut [u8]) -> Result<State, ScriptFault>
 {
     let mut state = State::at_first();
     let mut rest = lines;
+    // Line by line from the rest, and not over split: a last line that no 0A ends is a fault, and split would give it like the others.
+    // Lines are not counted apart, as they are behind a script: a line's number is that of the frames put so far, and one.
     while !rest.is_empty() {
-        match split_line(rest) {
-            Some((line, after)) => {
-                let (next, slot) = take_line::<K>(state, line)?;
-                let at = state.frames as usize * SLOT;
-                slab[at..at + SLOT].copy_from_slice(&slot.bytes);
-                state = next;
-                rest = after;
-            }
-            None => {
-                return Err(ScriptFault::from(LineFault {
-                    line: state.frames + 1,
-                }));
-            }
-        }
+        let number = state.frames + 1;
+        let (line, after) = split_line(rest).ok_or(LineFault { line: number })?;
+        let (next, slot) = take_line::<K>(state, line)?;
+        let at = usize::from(state.frames) * SLOT;
+        slab[at..at + SLOT].copy_from_slice(&slot.bytes);
+        state = next;
+        rest = after;
     }
-    if state.ended() {
-        Ok(state)
-    } else {
-        Err(ScriptFault::InFrame {
+    if !state.ended() {
+        return Err(ScriptFault::InFrame {
             cause: Cause::Order,
             line: state.frames + 1,
-        })
+        });
     }
+    Ok(state)
 }
 
 // Reads a script into a slab: the frames in their slots and zeros behind them, or a refusal and nothing but zeros.
@@ -91,7 +68,7 @@ fn read_into<K: Lattice>(lines: &[u8], slab: &mut [u8]) -> Result<Accepted<K>, R
     }
     match fill::<K>(lines, slab) {
         Ok(state) => {
-            let used = state.frames as usize * SLOT;
+            let used = usize::from(state.frames) * SLOT;
             slab[used..SLAB].fill(0);
             Ok(Accepted {
                 kind: PhantomData,
@@ -107,6 +84,8 @@ fn read_into<K: Lattice>(lines: &[u8], slab: &mut [u8]) -> Result<Accepted<K>, R
 
 // Reads a script of the kind K into a slab of at least 26,112 bytes: a frame a slot of 51 bytes, zeros behind it.
 // A refusal of the lines leaves the slab zero, a slab that is too short is left as it was.
+// It only calls read_into: what that contract means for every text is proved here, once.
+#[tactic(auto, using(crate::proofs::Promising::reads))]
 pub fn read<K: Lattice>(lines: &[u8], slab: &mut [u8]) -> Result<Accepted<K>, RunFault>
     ensures { Reads K.kind K.order lines.now slab.old slab.new result }
 {
@@ -124,17 +103,11 @@ fn header_kind(frame: Frame<'_>) -> Option<u8>
 }
 
 // The kind of levels that the header of a text names; None where its first line is no header.
+#[tactic(auto, using(crate::proofs::Naming::names, crate::proofs::Naming::no_line, crate::proofs::Naming::named_line))]
 pub fn kind_named(lines: &[u8]) -> Option<u8>
     ensures { NamesKind lines.now result }
 {
-    let Some((line, _)) = split_line(lines) else {
-        return None;
-    };
-    let Some(slot) = read_line(line) else {
-        return None;
-    };
-    let Some(frame) = read_frame(&slot.bytes[0..slot.len]) else {
-        return None;
-    };
-    header_kind(frame)
+    let (line, _) = split_line(lines)?;
+    let slot = read_line(line)?;
+    header_kind(read_frame(&slot.bytes[..slot.len])?)
 }

@@ -1,231 +1,194 @@
 // The state of reading, and the tests of each kind of frame in their order.
-ghost use Rattle.std.specs.Prelude.{◌≡◌, suc, ◌+◌, ◌^◌, ◌≤◌, ◌&&◌, [], ◌∷◌, ◌++◌, ◌==◌, nat_le, nat_lt};
+ghost use Rattle.std.specs.Prelude.{◌≡◌, suc, ◌+◌, ◌^◌, ◌≤◌, ◌&&◌, [], ◌∷◌, ◌++◌, ◌==◌, nat_lt, false, MatchOption, MatchResult};
+ghost use Rattle.std.proofs.Math.Option.{none, some};
+ghost use Rattle.codec.specs.Frames.{frame_of};
 ghost use Rattle.codec.specs.Frames.Frame.{header as m_header, track as m_track, channel as m_channel, thread as m_thread, thread_end as m_thread_end, skip as m_skip, last as m_last};
 ghost use Rattle.codec.specs.Shapes.{head_of, read_of};
 ghost use Rattle.codec.specs.Slots.{perhaps};
-ghost use Rattle.script.specs.Format.{all_channels, all_threads, all_tracks, enter, first_fault, has_level, head_in_range, innermost, is_ended, is_inside, is_next, is_outside, is_start, leave, none_open, nothing_seen, room, tag, tests};
+ghost use Rattle.script.specs.Format.{all_channels, all_threads, all_tracks, enter, first_fault, has_level, head_in_range, innermost, is_ended, is_inside, is_next, is_outside, is_start, leave, none_open, nothing_seen, or_fault_2, room, tag, tests};
 ghost use Rattle.script.specs.Format.Block.{before_else, behind_else};
-ghost use Rattle.script.specs.Format.Phase.{start};
+ghost use Rattle.script.specs.Format.Phase.{start, outside, inside};
 ghost use Rattle.script.specs.Refusals.{cause_number};
-ghost use Rattle.script.specs.Stages.{Entered, Judged, Passes, block_of, declaring, expression_asks, numbered, phase_of, seen_of};
+ghost use Rattle.script.specs.Takings.{Behind, line_fault};
+ghost use Rattle.script.specs.Stages.{Around, Entered, Judged, Passes, block_of, declaring, expression_asks, held, numbered, phase_of, seen_of, store_asks, with_store};
 
+use crate::blocks::{Block, Opened};
 use crate::faults::Cause;
-use crate::{DEPTH, Declarations, ENTRIES, FRAMES, SAMPLES};
+use crate::{Declarations, ENTRIES, FRAMES, SAMPLES};
 use codec::expressions::{leaves_one_number, names_declared};
-use codec::frames::{Frame, Head};
+use codec::frames::{Frame, Head, Store, read_frame};
 use lattice::Lattice;
 
-// An open block: an if before its else, an if behind it, a while, a with.
-#[derive(Clone, Copy)]
-pub(crate) enum Block {
-    BeforeElse,
-    BehindElse,
-    InWhile,
-    InWith,
-}
-
-// Before the header, outside the threads, inside one, behind the last frame.
+// Before the header, outside the threads, inside one with its open blocks, behind the last frame.
 #[derive(Clone, Copy)]
 pub(crate) enum Stage {
     Start,
     Outside,
-    Inside,
+    Inside(Opened),
     Ended,
 }
 
-// What was read so far: the header, how many tracks, channels, threads begun and frames,
-// the samples and entries declared, and the open blocks.
+// How many tracks or channels were declared so far, and how many samples or entries all of them take.
+#[derive(Clone, Copy, Default)]
+pub(crate) struct Stores {
+    pub count: u8,
+    pub used: u16,
+}
+
+// What was read so far: the header, the tracks and channels, how many threads were begun, and how many frames were read.
+// That these are at most 512 stands in contracts and in no ghost field: a struct with one takes no `..`, by which each state below is the one before it but for a part.
 #[derive(Clone, Copy)]
 pub(crate) struct State {
     pub stage: Stage,
     pub head: Head,
-    pub tracks: u8,
-    pub channels: u8,
+    pub tracks: Stores,
+    pub channels: Stores,
     pub threads: u8,
-    pub samples: u16,
-    pub entries: u16,
     pub frames: u16,
-    pub opened: [Block; DEPTH],
-    pub depth: usize,
 }
 
 // Whether a number is the next of so many declared.
 fn is_next_of(i: u8, seen: u8, declared: u8) -> bool
     ensures { result ≡ is_next i seen declared }
 {
-    (i == seen) & (seen < declared)
+    i == seen && seen < declared
 }
 
 // Whether a header is in its ranges, and of this kind of levels.
 fn in_range<K: Lattice>(head: Head) -> bool
     ensures { result ≡ head_in_range K.kind (head_of head) }
 {
-    (head.version == 1)
-        & ((head.kind == K::number())
-            & (((1 <= head.threads) & (head.threads <= 8))
-                & (((1 <= head.variables) & (head.variables <= 64))
-                    & ((head.tracks <= 8)
-                        & (((1 <= head.channels) & (head.channels <= 8)) & (head.locks <= 16))))))
-}
-
-fn same_block(a: Block, b: Block) -> bool
-    ensures { result ≡ (tag (block_of a) == tag (block_of b)) }
-{
-    match (a, b) {
-        (Block::BeforeElse, Block::BeforeElse) => true,
-        (Block::BehindElse, Block::BehindElse) => true,
-        (Block::InWhile, Block::InWhile) => true,
-        (Block::InWith, Block::InWith) => true,
-        _ => false,
-    }
+    matches!(
+        head,
+        Head {
+            version: 1,
+            kind,
+            threads: 1..=8,
+            variables: 1..=64,
+            tracks: 0..=8,
+            channels: 1..=8,
+            locks: 0..=16,
+        } if kind == K::number()
+    )
 }
 
 // Whether a mask names only locks that are declared.
+#[tactic(auto, using(crate::proofs::Masks::shifted))]
 fn locks_declared(locks: u16, declared: u8) -> bool
     ensures { result ≡ nat_lt locks (2 ^ declared) }
 {
-    if declared >= 16 {
-        true
-    } else {
-        locks >> declared == 0
-    }
+    locks.checked_shr(u32::from(declared)).unwrap_or(0) == 0
 }
 
 impl State {
-    // Before the first line.
+    // Behind a header, with nothing else declared yet.
+    fn under(head: Head) -> State
+        ensures phase { phase_of result ≡ outside }
+        ensures seen { seen_of result ≡ record nothing_seen { head = head_of head } }
+    {
+        State {
+            stage: Stage::Outside,
+            head,
+            tracks: Stores::default(),
+            channels: Stores::default(),
+            threads: 0,
+            frames: 0,
+        }
+    }
+
+    // Before the first line: nothing is declared.
     pub(crate) fn at_first() -> State
         ensures phase { phase_of result ≡ start }
         ensures seen { seen_of result ≡ nothing_seen }
-        ensures deep { result.depth ≤ 16 }
         ensures few { result.frames ≤ 512 }
     {
         State {
             stage: Stage::Start,
-            head: Head {
-                version: 0,
-                kind: 0,
-                threads: 0,
-                variables: 0,
-                tracks: 0,
-                channels: 0,
-                locks: 0,
-            },
-            tracks: 0,
-            channels: 0,
-            threads: 0,
-            samples: 0,
-            entries: 0,
-            frames: 0,
-            opened: [Block::BeforeElse; DEPTH],
-            depth: 0,
+            ..State::under(Head::default())
         }
     }
 
     fn at_start(self) -> bool
         ensures { result ≡ is_start (phase_of self) }
     {
-        match self.stage {
-            Stage::Start => true,
-            Stage::Outside | Stage::Inside | Stage::Ended => false,
-        }
+        matches!(self.stage, Stage::Start)
     }
 
     fn outside(self) -> bool
         ensures { result ≡ is_outside (phase_of self) }
     {
-        match self.stage {
-            Stage::Outside => true,
-            Stage::Start | Stage::Inside | Stage::Ended => false,
-        }
+        matches!(self.stage, Stage::Outside)
     }
 
     fn inside(self) -> bool
         ensures { result ≡ is_inside (phase_of self) }
     {
-        match self.stage {
-            Stage::Inside => true,
-            Stage::Start | Stage::Outside | Stage::Ended => false,
-        }
+        matches!(self.stage, Stage::Inside(_))
     }
 
     pub(crate) fn ended(self) -> bool
         ensures { result ≡ is_ended (phase_of self) }
     {
-        match self.stage {
-            Stage::Ended => true,
-            Stage::Start | Stage::Outside | Stage::Inside => false,
-        }
+        matches!(self.stage, Stage::Ended)
     }
 
     // Whether a level is of the kind; before the header there is no kind yet, so every level passes.
     fn allows<K: Lattice>(self, level: u32) -> bool
         ensures { result ≡ has_level K.order (phase_of self) level }
     {
-        match self.stage {
-            Stage::Start => true,
-            Stage::Outside | Stage::Inside | Stage::Ended => K::has(level),
-        }
+        self.at_start() || K::has(level)
     }
 
     fn tracks_done(self) -> bool
         ensures { result ≡ all_tracks (phase_of self) (seen_of self) }
     {
-        self.outside() & (self.tracks == self.head.tracks)
+        self.outside() && self.tracks.count == self.head.tracks
     }
 
     fn channels_done(self) -> bool
         ensures { result ≡ all_channels (phase_of self) (seen_of self) }
     {
-        self.tracks_done() & (self.channels == self.head.channels)
+        self.tracks_done() && self.channels.count == self.head.channels
     }
 
     fn threads_done(self) -> bool
         ensures { result ≡ all_threads (phase_of self) (seen_of self) }
     {
-        self.channels_done() & (self.threads == self.head.threads)
+        self.channels_done() && self.threads == self.head.threads
     }
 
     // Whether a thread is begun and all of its blocks are closed.
     fn nothing_open(self) -> bool
         ensures { result ≡ none_open (phase_of self) }
     {
-        match self.stage {
-            Stage::Inside => self.depth == 0,
-            Stage::Start | Stage::Outside | Stage::Ended => false,
-        }
+        matches!(self.stage, Stage::Inside(opened) if opened.is_empty())
     }
 
-    // Whether the innermost open block is of this sort.
-    fn ends(self, block: Block) -> bool
-        requires { self.depth ≤ 16 }
-        ensures { result ≡ innermost (block_of block) (phase_of self) }
+    // The blocks around the innermost open one; None where that is not of this sort.
+    fn around(self, block: Block) -> Option<Opened>
+        ensures { MatchOption result (innermost (block_of block) (phase_of self) ≡ false) (Around (block_of block) (phase_of self)) }
     {
-        match self.stage {
-            Stage::Inside => {
-                if self.depth == 0 {
-                    false
-                } else {
-                    same_block(block, self.opened[self.depth - 1])
-                }
-            }
-            Stage::Start | Stage::Outside | Stage::Ended => false,
-        }
+        let Stage::Inside(opened) = self.stage else {
+            return None;
+        };
+        let (last, around) = opened.pop()?;
+        (last == block).then_some(around)
     }
 
-    // The tests of a command's place and expression; `named` says whether its other name is declared.
-    fn expression_fault(self, named: bool, code: &[u8]) -> Option<Cause>
-        ensures { perhaps cause_number result ≡ first_fault (expression_asks self named code.now) }
+    // The open blocks at a command, by the tests of its place and expression; `named` says whether its other name is declared.
+    fn expression(self, named: bool, code: &[u8]) -> Result<Opened, Cause>
+        ensures { MatchResult result (λ o. (first_fault (expression_asks self named code.now) ≡ none) × (phase_of self ≡ inside (held o))) (λ c. first_fault (expression_asks self named code.now) ≡ some (cause_number c)) }
     {
-        if !self.inside() {
-            return Some(Cause::Order);
-        }
-        if !(named & names_declared(code, &self.head)) {
-            return Some(Cause::Undeclared);
+        let Stage::Inside(opened) = self.stage else {
+            return Err(Cause::Order);
+        };
+        if !(named && names_declared(code, &self.head)) {
+            return Err(Cause::Undeclared);
         }
         if !leaves_one_number(code) {
-            return Some(Cause::Expression);
+            return Err(Cause::Expression);
         }
-        None
+        Ok(opened)
     }
 
     fn header<K: Lattice>(self, head: Head) -> Result<State, Cause>
@@ -238,76 +201,75 @@ impl State {
             return Err(Cause::Order);
         }
         Ok(State {
-            stage: Stage::Outside,
-            head,
-            tracks: 0,
-            channels: 0,
-            threads: 0,
-            samples: 0,
-            entries: 0,
-            depth: 0,
-            ..self
+            frames: self.frames,
+            ..State::under(head)
         })
     }
 
-    fn track<K: Lattice>(self, number: u8, level: u32, capacity: u16) -> Result<State, Cause>
-        requires { self.depth ≤ 16 }
-        ensures { Passes (numbered 3 (nat_le (self.samples + capacity) 2048) ∷ numbered 4 (has_level K.order (phase_of self) level) ∷ numbered 5 (is_outside (phase_of self) && is_next number self.tracks self.head.tracks) ∷ []) self (m_track number level capacity) result }
+    // One more track or channel behind these, of so many declared and with room for so much in all.
+    fn store<K: Lattice>(
+        self,
+        stores: Stores,
+        store: Store,
+        declared: u8,
+        limit: u16,
+        placed: bool,
+    ) -> Result<Stores, Cause>
+        ensures { MatchResult result (λ t. (first_fault (store_asks K.order self stores store declared limit placed) ≡ none) × (t ≡ with_store stores store)) (λ c. first_fault (store_asks K.order self stores store declared limit placed) ≡ some (cause_number c)) }
     {
-        let samples = self.samples as u32 + capacity as u32;
-        if samples > SAMPLES {
-            return Err(Cause::Range);
-        }
-        if !self.allows::<K>(level) {
+        let used = stores
+            .used
+            .checked_add(store.capacity)
+            .filter(|used| *used <= limit)
+            .ok_or(Cause::Range)?;
+        if !self.allows::<K>(store.level) {
             return Err(Cause::Level);
         }
-        if !(self.outside() & is_next_of(number, self.tracks, self.head.tracks)) {
+        if !(placed && is_next_of(store.number, stores.count, declared)) {
             return Err(Cause::Order);
         }
-        Ok(State {
-            tracks: self.tracks + 1,
-            samples: samples as u16,
-            ..self
+        Ok(Stores {
+            count: stores.count + 1,
+            used,
         })
     }
 
-    fn channel<K: Lattice>(self, number: u8, level: u32, capacity: u16) -> Result<State, Cause>
-        requires { self.depth ≤ 16 }
-        ensures { Passes (numbered 3 (nat_le (self.entries + capacity) 512) ∷ numbered 4 (has_level K.order (phase_of self) level) ∷ numbered 5 (all_tracks (phase_of self) (seen_of self) && is_next number self.channels self.head.channels) ∷ []) self (m_channel number level capacity) result }
+    fn track<K: Lattice>(self, store: Store) -> Result<State, Cause>
+        ensures { Passes (store_asks K.order self self.tracks store self.head.tracks 2048 (is_outside (phase_of self))) self (m_track store.number store.level store.capacity) result }
     {
-        let entries = self.entries as u32 + capacity as u32;
-        if entries > ENTRIES {
-            return Err(Cause::Range);
-        }
-        if !self.allows::<K>(level) {
-            return Err(Cause::Level);
-        }
-        if !(self.tracks_done() & is_next_of(number, self.channels, self.head.channels)) {
-            return Err(Cause::Order);
-        }
-        Ok(State {
-            channels: self.channels + 1,
-            entries: entries as u16,
-            ..self
-        })
+        let placed = self.outside();
+        let tracks = self.store::<K>(self.tracks, store, self.head.tracks, SAMPLES as u16, placed)?;
+        Ok(State { tracks, ..self })
+    }
+
+    fn channel<K: Lattice>(self, store: Store) -> Result<State, Cause>
+        ensures { Passes (store_asks K.order self self.channels store self.head.channels 512 (all_tracks (phase_of self) (seen_of self))) self (m_channel store.number store.level store.capacity) result }
+    {
+        let placed = self.tracks_done();
+        let channels = self.store::<K>(
+            self.channels,
+            store,
+            self.head.channels,
+            ENTRIES as u16,
+            placed,
+        )?;
+        Ok(State { channels, ..self })
     }
 
     fn thread(self, number: u8) -> Result<State, Cause>
         ensures { Passes (numbered 5 (all_channels (phase_of self) (seen_of self) && is_next number self.threads self.head.threads) ∷ []) self (m_thread number) result }
     {
-        if !(self.channels_done() & is_next_of(number, self.threads, self.head.threads)) {
+        if !(self.channels_done() && is_next_of(number, self.threads, self.head.threads)) {
             return Err(Cause::Order);
         }
         Ok(State {
-            stage: Stage::Inside,
+            stage: Stage::Inside(Opened::none()),
             threads: self.threads + 1,
-            depth: 0,
             ..self
         })
     }
 
     fn thread_end(self) -> Result<State, Cause>
-        requires { self.depth ≤ 16 }
         ensures { Passes (numbered 5 (none_open (phase_of self)) ∷ []) self m_thread_end result }
     {
         if !self.nothing_open() {
@@ -320,7 +282,6 @@ impl State {
     }
 
     fn skip(self) -> Result<State, Cause>
-        requires { self.depth ≤ 16 }
         ensures { Passes (numbered 5 (is_inside (phase_of self)) ∷ []) self m_skip result }
     {
         if !self.inside() {
@@ -331,70 +292,53 @@ impl State {
 
     // An assign or a put.
     fn command(self, named: bool, code: &[u8]) -> Result<State, Cause>
-        requires { self.depth ≤ 16 }
         ensures { Passes (expression_asks self named code.now) self m_skip result }
     {
-        match self.expression_fault(named, code) {
-            Some(cause) => Err(cause),
-            None => Ok(self),
-        }
+        self.expression(named, code)?;
+        Ok(self)
     }
 
     // An if, a while or a with.
     fn opening(self, block: Block, named: bool, code: &[u8]) -> Result<State, Cause>
-        requires { self.depth ≤ 16 }
         ensures { Entered (expression_asks self named code.now ++ (numbered 8 (room (phase_of self)) ∷ [])) self (enter (block_of block) (phase_of self)) result }
     {
-        match self.expression_fault(named, code) {
-            Some(cause) => Err(cause),
-            None => {
-                if self.depth >= DEPTH {
-                    return Err(Cause::Limit);
-                }
-                let mut opened = self.opened;
-                opened[self.depth] = block;
-                Ok(State {
-                    depth: self.depth + 1,
-                    opened,
-                    ..self
-                })
-            }
+        let opened = self.expression(named, code)?;
+        if !opened.has_room() {
+            return Err(Cause::Limit);
         }
+        Ok(State {
+            stage: Stage::Inside(opened.push(block)),
+            ..self
+        })
     }
 
     // The else of an if.
     fn turning(self) -> Result<State, Cause>
-        requires { self.depth ≤ 16 }
         ensures { Entered (numbered 5 (innermost before_else (phase_of self)) ∷ []) self (enter behind_else (leave (phase_of self))) result }
     {
-        if !self.ends(Block::BeforeElse) {
-            return Err(Cause::Order);
-        }
-        let mut opened = self.opened;
-        opened[self.depth - 1] = Block::BehindElse;
-        Ok(State { opened, ..self })
+        let around = self.around(Block::BeforeElse).ok_or(Cause::Order)?;
+        Ok(State {
+            stage: Stage::Inside(around.push(Block::BehindElse)),
+            ..self
+        })
     }
 
     // The end of an if, a while or a with.
     fn closing(self, block: Block) -> Result<State, Cause>
-        requires { self.depth ≤ 16 }
         ensures { Entered (numbered 5 (innermost (block_of block) (phase_of self)) ∷ []) self (leave (phase_of self)) result }
     {
-        if !self.ends(block) {
-            return Err(Cause::Order);
-        }
+        let around = self.around(block).ok_or(Cause::Order)?;
         Ok(State {
-            depth: self.depth - 1,
+            stage: Stage::Inside(around),
             ..self
         })
     }
 
     // The last frame, which has the number of all frames.
     fn last(self, frames: u16) -> Result<State, Cause>
-        requires { self.depth ≤ 16 }
         ensures { Passes (numbered 5 (all_threads (phase_of self) (seen_of self) && frames == suc self.frames) ∷ []) self (m_last frames) result }
     {
-        if !(self.threads_done() & (frames as u32 == self.frames as u32 + 1)) {
+        if !(self.threads_done() && u32::from(frames) == u32::from(self.frames) + 1) {
             return Err(Cause::Order);
         }
         Ok(State {
@@ -405,21 +349,12 @@ impl State {
 
     // The state behind a frame but for the count of frames, or what the frame itself is refused for: its first test that fails.
     fn behind<K: Lattice>(self, frame: Frame<'_>) -> Result<State, Cause>
-        requires { self.depth ≤ 16 }
         ensures { Passes (tests K.kind K.order (phase_of self) (seen_of self) (read_of frame.entry).frame (read_of frame.entry).whole) self (read_of frame.entry).frame result }
     {
         match frame {
             Frame::Header(head) => self.header::<K>(head),
-            Frame::Track {
-                number,
-                level,
-                capacity,
-            } => self.track::<K>(number, level, capacity),
-            Frame::Channel {
-                number,
-                level,
-                capacity,
-            } => self.channel::<K>(number, level, capacity),
+            Frame::Track(store) => self.track::<K>(store),
+            Frame::Channel(store) => self.channel::<K>(store),
             Frame::Thread { number } => self.thread(number),
             Frame::ThreadEnd => self.thread_end(),
             Frame::Skip => self.skip(),
@@ -449,8 +384,8 @@ impl State {
     }
 
     // The state behind a frame, or what it is refused for; that it is one too many is tested last.
-    pub(crate) fn judge<K: Lattice>(self, frame: Frame<'_>) -> Result<State, Cause>
-        requires { self.depth ≤ 16 }
+    #[tactic(auto, using(crate::proofs::Judging::one_too_many, crate::proofs::Judging::no_fault, crate::proofs::Judging::counted))]
+    fn judge<K: Lattice>(self, frame: Frame<'_>) -> Result<State, Cause>
         ensures { Judged K.kind K.order self (read_of frame.entry) result }
     {
         let next = self.behind::<K>(frame)?;
@@ -463,14 +398,22 @@ impl State {
         })
     }
 
+    // The state behind the frame that these bytes are, or what they are refused for.
+    #[tactic(auto, using(crate::proofs::Judging::taken))]
+    pub(crate) fn take<K: Lattice>(self, bytes: &[u8]) -> Result<State, Cause>
+        ensures { MatchResult result (Behind K.kind K.order self (or_fault_2 (frame_of bytes.now))) (λ c. line_fault K.kind K.order self (or_fault_2 (frame_of bytes.now)) ≡ some (cause_number c)) }
+    {
+        self.judge::<K>(read_frame(bytes).ok_or(Cause::Shape)?)
+    }
+
     // What was declared so far.
     pub(crate) fn declarations(self) -> Declarations
         ensures { result ≡ declaring self }
     {
         Declarations {
             head: self.head,
-            samples: self.samples,
-            entries: self.entries,
+            samples: self.tracks.used,
+            entries: self.channels.used,
             frames: self.frames,
         }
     }

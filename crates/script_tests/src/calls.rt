@@ -36,7 +36,7 @@ fn slabs(rt: HostRuntime) -> Result<(), Fail> {
     let mut short = [7u8; 26_111];
     match read::<TwoPoint>(LISTING, &mut short) {
         Ok(_) => return Err(Fail::new("read into a short slab")),
-        Err(fault) => assert_eq!(rt; fault.refusal(), NO_STATE),
+        Err(fault) => assert_eq!(rt; Refusal::from(fault), NO_STATE),
     }
     assert!(rt; short == [7u8; 26_111]);
     let mut long = [7u8; 26_120];
@@ -77,7 +77,7 @@ fn declarations(rt: HostRuntime) -> Result<(), Fail> {
 fn not_written(rt: &impl Abort, slab: &[u8], out: &mut [u8]) -> Result<(), Fail> {
     match write::<TwoPoint>(slab, out) {
         Ok(_) => return Err(Fail::new("written")),
-        Err(fault) => assert_eq!(rt; fault.refusal(), NO_STATE),
+        Err(fault) => assert_eq!(rt; Refusal::from(fault), NO_STATE),
     }
     for byte in out {
         assert_eq!(rt; *byte, 0);
@@ -118,16 +118,10 @@ fn frames_by_slot(rt: HostRuntime) -> Result<(), Fail> {
     let mut slab = [7u8; SLAB];
     assert!(rt; read::<TwoPoint>(LISTING, &mut slab).is_ok());
     match frame_at(&slab, 1) {
-        Some(
-            Frame::Track {
-                number,
-                level,
-                capacity,
-            },
-        ) => {
-            assert_eq!(rt; number, 0);
-            assert_eq!(rt; level, 1);
-            assert_eq!(rt; capacity, 4);
+        Some(Frame::Track(store)) => {
+            assert_eq!(rt; store.number, 0);
+            assert_eq!(rt; store.level, 1);
+            assert_eq!(rt; store.capacity, 4);
         }
         _ => return Err(Fail::new("no track")),
     }
@@ -169,6 +163,7 @@ fn kinds(rt: HostRuntime) {
 #[test]
 fn faults(rt: HostRuntime) {
     let fault = LineFault { line: 3 };
-    assert_eq!(rt; RunFault::from(fault).refusal(), fault.refusal());
-    assert_eq!(rt; fault.refusal().line, Some(3));
+    let told = Refusal::from(fault);
+    assert_eq!(rt; Refusal::from(RunFault::from(fault)), told);
+    assert_eq!(rt; told.line, Some(3));
 }

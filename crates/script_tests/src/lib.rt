@@ -4,4 +4,6 @@
 #[cfg(test)]
 mod calls;
 #[cfg(test)]
+mod meanings;
+#[cfg(test)]
 mod refusals;

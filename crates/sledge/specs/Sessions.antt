@@ -1,5 +1,5 @@
 -- What a session writes where it comes to no run: one line, which tells why.
-use Rattle.std.specs.Prelude.{◌≡◌, ℕ, ◌<◌, ◌≤◌, cond, List, [], ◌∷◌, length, Result, MatchResult, ◌==◌}
+use Rattle.std.specs.Prelude.{◌≡◌, ℕ, ◌<◌, ◌≤◌, cond, List, [], ◌∷◌, ◌++◌, length, Result, MatchResult, ◌==◌}
 use Rattle.lattice.specs.Orders.{two_point, bit_sets}
 use Rattle.codec.specs.Expressions.{two}
 use Rattle.codec.specs.Lines.{written}
@@ -7,6 +7,7 @@ use Rattle.script.specs.Format.{Verdict, named_kind, read_script}
 use Rattle.script.specs.Format.Verdict.{refused}
 use Rattle.script.specs.Refusals.{refusal, run_refusal}
 use Rattle.protocol.specs.Intake.{Parted, kind_for}
+use Rattle.protocol.specs.Replies.{refused_at, reply_bytes}
 use Rattle.sledge.specs.declared.stop.Stop.{Stop}
 use Rattle.sledge.specs.declared.stop.Stop.TheVariants.{Refused, NoMemory}
 
@@ -18,6 +19,11 @@ refusal_line number line = written ((0x6F ∷ number ∷ two line) ∷ [])
 abbrev pub StopsWith : ℕ → ℕ → Stop → Type 0
 StopsWith n l (Refused fault) = run_refusal fault ≡ refusal n l
 StopsWith n l (NoMemory e) = Unit {0}
+
+-- A refusal was told in its line; want of memory is not told.
+abbrev pub Told : Stop → ℕ → List ℕ → List ℕ → Type 0
+Told (Refused fault) line before after = after ≡ before ++ written (reply_bytes (refused_at fault line) ∷ [])
+Told (NoMemory e) line before after = ⊥
 
 -- It stops there and has written nothing.
 abbrev pub Stopped : ℕ → ℕ → List ℕ → List ℕ → Result (Unit {0}) Stop → Type 0

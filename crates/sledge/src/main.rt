@@ -2,17 +2,15 @@
 #![tactic(auto)]
 
 use crate::session::respond;
-use protocol::intake::LONGEST;
-use std::io::{Read, Write};
+use protocol::intake::read_input;
+use std::io::Write;
 
 mod session;
 mod slabs;
 mod stop;
 
 fn run(rt: &HostRuntime) -> anyhow::Result<()> {
-    let mut input = Vec::new(rt.alloc());
-    // One byte more than is taken, so that too long an input shows.
-    rt.stdin().take(LONGEST as u64 + 1).read_to_end(&mut input)?;
+    let input = read_input(rt.alloc(), rt.stdin())?;
     let output = respond(rt.alloc(), &input)?;
     rt.stdout().write_all(&output)?;
     Ok(())

@@ -7,14 +7,13 @@ ghost use Rattle.sledge.specs.Sessions.{Refusals, Stopped, refusal_line};
 
 use crate::slabs::Slabs;
 use crate::stop::Stop;
-use codec::lines::Slot;
 use lattice::{Bits, Lattice, TwoPoint};
 use protocol::intake::{Kind, kind_for_text, short_enough, split_script};
-use protocol::replies::{Reply, put_reply, refused};
-use protocol::run_lines::{Call, Line, Scheduling, next_line, read_call, read_scheduling};
-use runs::{Entry, Run};
+use protocol::replies::{Reply, put_reply};
+use protocol::run_lines::{Call, Line, Lines, Scheduling, fault_at, read_call, read_scheduling};
+use runs::{Count, Entry, Run};
 use scheduler::{PickList, RoundRobin, Scheduler};
-use script::faults::{Cause, LineFault, ScriptFault};
+use script::faults::Cause;
 use script::{Accepted, SLAB, read};
 use std::alloc::{AllocError, Global};
 
@@ -23,17 +22,14 @@ pub fn respond(heap: Global, input: &[u8]) -> Result<Vec<u8>, AllocError>
     ensures { IfOk result (λ v. Refusals input.now (λ n l. v.items ≡ refusal_line n l)) }
 {
     let mut out = Vec::new(heap);
-    match hold_session(heap, input, &mut out) {
-        Ok(()) => Ok(out),
-        Err(Stop::Refused(fault)) => {
-            put_reply(&mut out, refused(fault, 0))?;
-            Ok(out)
-        }
-        Err(Stop::NoMemory(error)) => Err(error),
+    if let Err(stop) = hold_session(heap, input, &mut out) {
+        stop.tell(&mut out, 0)?;
     }
+    Ok(out)
 }
 
-// The header says which kind of levels a script has.
+// The header says which kind of levels a script has, and the kind becomes a type by an arm for each. A trait to call through,
+// for this program and report, would be no plainer.
 fn hold_session(heap: Global, input: &[u8], out: &mut Vec<u8>) -> Result<(), Stop>
     ensures { Refusals input.now (λ n l. Stopped n l out.old.items out.new.items result) }
 {
@@ -70,24 +66,20 @@ fn schedule<K: Lattice>(
     let declared = accepted.declarations();
     // A script has a line for each frame.
     let number = declared.frames.saturating_add(1);
-    let Some(Line { bytes, rest }) = next_line(run_lines, number) else {
-        return Err(Stop::from(ScriptFault::InFrame {
-            cause: Cause::Order,
-            line: number,
-        }));
-    };
-    let slot = bytes?;
-    let scheduling = read_scheduling(&slot.bytes[0..slot.len], number)?;
+    let mut lines = Lines::numbered(run_lines, number);
+    let line = lines.next().ok_or(fault_at(number, Cause::Order))?;
+    let slot = line.bytes?;
+    let scheduling = read_scheduling(&slot.bytes[..slot.len], number)?;
     let slabs = Slabs::around(heap, slab, declared)?;
-    let next = number.saturating_add(1);
+    // Each scheduler is a type of its own, and a run is generic in it. One value for both would be an enum that implements the
+    // trait by these two arms in each of its functions, which is no plainer.
     match scheduling {
-        Scheduling::RoundRobin => run_through(accepted, RoundRobin::new(), slabs, rest, next, out),
+        Scheduling::RoundRobin => run_through(accepted, RoundRobin::new(), slabs, lines, out),
         Scheduling::PickList { picks } => run_through(
             accepted,
             PickList::new(picks),
             slabs,
-            rest,
-            next,
+            lines,
             out,
         ),
     }
@@ -98,120 +90,95 @@ fn run_through<K: Lattice, S: Scheduler + Drop>(
     accepted: &Accepted<K>,
     scheduler: S,
     mut slabs: Slabs,
-    calls: &[u8],
-    number: u16,
+    calls: Lines<'_>,
     out: &mut Vec<u8>,
 ) -> Result<(), Stop> {
-    let mut run = Run::<K, S>::make(
-        accepted,
-        scheduler,
-        &slabs.script,
-        &mut slabs.samples,
-        &mut slabs.entries,
-        &mut slabs.marks,
-    )?;
-    let answered = answer_all(&mut run, &mut slabs, calls, number, out);
-    let turns = run.close(
-        &mut slabs.script,
-        &mut slabs.samples,
-        &mut slabs.entries,
-        &mut slabs.marks,
-        &mut slabs.work,
-    );
+    let run = slabs.make(accepted, scheduler)?;
+    let mut session = Session { run, slabs, out };
+    let answered = session.answer_all(calls);
+    let turns = session.close();
     answered?;
     put_reply(out, Reply::Closed { turns })?;
     Ok(())
 }
 
-// Answers line by line; a refusal is told at its line, and the next line is taken.
-fn answer_all<K: Lattice, S: Scheduler + Drop>(
-    run: &mut Run<K, S>,
-    slabs: &mut Slabs,
-    calls: &[u8],
-    first: u16,
-    out: &mut Vec<u8>,
-) -> Result<(), AllocError> {
-    let mut text = calls;
-    let mut number = first;
-    while let Some(Line { bytes, rest }) = next_line(text, number) {
-        match answer(run, slabs, bytes, number, out) {
-            Ok(()) => {}
-            Err(Stop::Refused(fault)) => put_reply(out, refused(fault, number))?,
-            Err(Stop::NoMemory(error)) => return Err(error),
+// A run, the memory that it is lent, and what is written. It has to be closed, as a run has to.
+struct Session<'a, K: Lattice, S: Scheduler + Drop> {
+    run: Run<K, S>,
+    slabs: Slabs,
+    out: &'a mut Vec<u8>,
+}
+
+impl<K: Lattice, S: Scheduler + Drop> Session<'_, K, S> {
+    // Answers line by line; a refusal is told at its line, and the next line is taken.
+    fn answer_all(&mut self, calls: Lines<'_>) -> Result<(), AllocError> {
+        for line in calls {
+            if let Err(stop) = self.answer(line) {
+                stop.tell(self.out, line.number)?;
+            }
         }
-        text = rest;
-        // An input has far fewer lines than the count can hold.
-        number = number.saturating_add(1);
+        Ok(())
     }
-    Ok(())
-}
 
-// Makes the call that a line asks for, and tells what it gave.
-fn answer<K: Lattice, S: Scheduler + Drop>(
-    run: &mut Run<K, S>,
-    slabs: &mut Slabs,
-    bytes: Result<Slot, LineFault>,
-    number: u16,
-    out: &mut Vec<u8>,
-) -> Result<(), Stop>
-    requires { IfOk bytes Padded }
-{
-    let slot = bytes?;
-    let reply = match read_call(&slot.bytes[0..slot.len], number)? {
-        Call::Feed { track, sample } => Reply::Fed {
-            track,
-            held: run.feed(track, sample, &mut slabs.samples)?,
-        },
-        Call::Advance { turns } => Reply::Advanced {
-            turns: run.advance(
-                turns,
-                &slabs.script,
-                &slabs.samples,
-                &mut slabs.entries,
-                &mut slabs.marks,
-                &mut slabs.work,
-            )?,
-        },
-        Call::Read { channel } => return show(run, &slabs.entries, channel, out),
-        // No call tells a thread's status yet, so the kind of such a line is unknown.
-        Call::Status { thread: _ } => {
-            return Err(Stop::from(ScriptFault::InFrame {
-                cause: Cause::Shape,
-                line: number,
-            }));
-        }
-    };
-    put_reply(out, reply)?;
-    Ok(())
-}
-
-// A channel's count, and then all of its entries.
-fn show<K: Lattice, S: Scheduler + Drop>(
-    run: &Run<K, S>,
-    entries: &[Entry],
-    channel: u8,
-    out: &mut Vec<u8>,
-) -> Result<(), Stop> {
-    let count = run.count(channel, entries)?;
-    put_reply(
-        out,
-        Reply::Channel {
-            channel,
-            entries: count.entries,
-            missed: count.missed,
-        },
-    )?;
-    for index in 0..count.entries {
-        let entry = run.entry(channel, index, entries)?;
-        put_reply(
-            out,
-            Reply::Entry {
-                turn: entry.turn,
-                thread: entry.thread,
-                mark: entry.mark,
-                value: entry.value,
+    // Makes the call that a line asks for, and tells what it gave.
+    fn answer(&mut self, line: Line) -> Result<(), Stop>
+        requires { IfOk line.bytes Padded }
+    {
+        let number = line.number;
+        let slot = line.bytes?;
+        let reply = match read_call(&slot.bytes[..slot.len], number)? {
+            Call::Feed { track, sample } => Reply::Fed {
+                track,
+                held: self.slabs.feed(&mut self.run, track, sample)?,
             },
-        )?;
+            Call::Advance { turns } => Reply::Advanced {
+                turns: self.slabs.advance(&mut self.run, turns)?,
+            },
+            Call::Read { channel } => return self.show(channel),
+            // No call tells a thread's status yet, so the kind of such a line is unknown.
+            Call::Status { .. } => {
+                return Err(Stop::from(fault_at(number, Cause::Shape)));
+            }
+        };
+        put_reply(self.out, reply)?;
+        Ok(())
     }
-    Ok(())
+
+    // A channel's count, and then all of its entries.
+    fn show(&mut self, channel: u8) -> Result<(), Stop> {
+        let Count { entries, missed } = self.slabs.count(&self.run, channel)?;
+        let reply = Reply::Channel {
+            channel,
+            entries,
+            missed,
+        };
+        put_reply(self.out, reply)?;
+        // A run answers one entry at a call, by its number, and the calls on a run are fixed.
+        for index in 0..entries {
+            let Entry {
+                turn,
+                thread,
+                mark,
+                value,
+            } = self.slabs.entry(&self.run, channel, index)?;
+            let reply = Reply::Entry {
+                turn,
+                thread,
+                mark,
+                value,
+            };
+            put_reply(self.out, reply)?;
+        }
+        Ok(())
+    }
+
+    // Ends the run: how many turns it was given.
+    fn close(self) -> u32 {
+        let Session {
+            run,
+            mut slabs,
+            out: _,
+        } = self;
+        slabs.close(run)
+    }
 }

@@ -1,12 +1,12 @@
 -- The bytes of an expression, in the slot of its frame.
-use Rattle.std.proofs.Common.{◌≡◌, ℕ, zero, suc, ◌+◌, ◌-◌, ◌*◌, ◌<◌, ◌≤◌, min, Bool, true, false, cond, eqb, List, [], ◌∷◌, ◌++◌, length, take, drop, replicate, sym, refl, ap, ◌∙◌, subst, append_assoc, append-nil, arith, w32, to_z}
+use Rattle.std.proofs.Common.{◌≡◌, ℕ, zero, suc, ◌+◌, ◌-◌, ◌*◌, ◌<◌, ◌≤◌, min, Bool, true, false, cond, eqb, List, [], ◌∷◌, ◌++◌, length, take, drop, replicate, sym, refl, ap, ◌∙◌, subst, append_assoc, append-nil, arith, rules}
 use mathlib.Core.Option.{Option, none, some}
 use Rattle.std.proofs.lemmas.List.{drop_at, drop-drop, drop-take, length-append, take_at, take-take}
 use Rattle.std.specs.List.{AllByRecursion}
 use Rattle.lattice.specs.Levels.{Levels}
 use Rattle.codec.specs.Tables.{Row, look_up}
-use Rattle.codec.specs.Expressions.{Op, Taken, alone, and_then, decode, expr_bytes, number_4, op_bytes, operation, operations, with_four, with_one}
-use Rattle.codec.specs.Expressions.Op.{constant, variable, sample, held, binary, unary}
+use Rattle.codec.specs.Expressions.{Op, Taken, alone, and_then, decode, expr_bytes, op_bytes, operation, operations, with_four, with_one}
+use Rattle.codec.specs.Expressions.Op.{variable, sample, held, binary, unary}
 use Rattle.codec.specs.Expressions.Binary.{sum, difference, product, quotient, less, equal, both, either}
 use Rattle.codec.specs.Expressions.Unary.{negated, inverted}
 use Rattle.codec.specs.Frames.{Frame, Head, frame_bytes}
@@ -29,21 +29,17 @@ pub record Long (bs : List ℕ) (t : Taken) : Type 0 where
   pub there : t.bytes ≤ length bs
 
 four_long : (bs : List ℕ) (t : Taken) → with_four bs ≡ some t → Long bs t
-four_long [] t e = let z : ◌≡◌ {A = ℕ} 0 1 = cc in absurd (omega arith)
-four_long (a ∷ []) t e = let z : ◌≡◌ {A = ℕ} 0 1 = cc in absurd (omega arith)
-four_long (a ∷ b ∷ []) t e = let z : ◌≡◌ {A = ℕ} 0 1 = cc in absurd (omega arith)
-four_long (a ∷ b ∷ c ∷ []) t e = let z : ◌≡◌ {A = ℕ} 0 1 = cc in absurd (omega arith)
-four_long (a ∷ b ∷ c ∷ d ∷ bs) t e = let s : record { op = constant (to_z w32 (number_4 a b c d)); bytes = 4 } ≡ t = cc in subst (Long (a ∷ b ∷ c ∷ d ∷ bs)) s (record { own = refl; there = omega arith })
+four_long bs t e = search rules
 
 one_long : (f : ℕ → Op) → ((a : ℕ) → length (op_bytes (f a)) ≡ 2) → (bs : List ℕ) (t : Taken) → with_one f bs ≡ some t → Long bs t
-one_long f h [] t e = let z : ◌≡◌ {A = ℕ} 0 1 = cc in absurd (omega arith)
+one_long f h [] t e = absurd cc
 one_long f h (a ∷ bs) t e = let s : record { op = f a; bytes = 1 } ≡ t = cc in subst (Long (a ∷ bs)) s (record { own = h a; there = omega arith })
 
 alone_long : (o : Op) → length (op_bytes o) ≡ 1 → (bs : List ℕ) (t : Taken) → alone o bs ≡ some t → Long bs t
 alone_long o h bs t e = let s : record { op = o; bytes = 0 } ≡ t = cc in subst (Long bs) s (record { own = h; there = omega arith })
 
 looked : (bs : List ℕ) (t : Taken) (rs : List (Row Taken)) → AllByRecursion (λ (r : Row Taken). r.says bs ≡ some t → Long bs t) rs → (c : ℕ) → look_up rs c bs ≡ some t → Long bs t
-looked bs t [] h c e = let z : ◌≡◌ {A = ℕ} 0 1 = cc in absurd (omega arith)
+looked bs t [] h c e = absurd cc
 looked bs t (r ∷ rs) h c e = go (eqb c r.code) e (looked bs t rs h.1 c)
   where
     go : (b : Bool) → cond b (r.says bs) (look_up rs c bs) ≡ some t → (look_up rs c bs ≡ some t → Long bs t) → Long bs t
@@ -100,7 +96,7 @@ decoded_long (b ∷ bs) zero h w = go (operation b bs) refl w (λ n. decoded_lon
   where
     go : (o : Option Taken) → operation b bs ≡ o → (and_then o (λ n. decode n bs)).whole ≡ true → ((n : ℕ) → n ≤ length bs → (decode n bs).whole ≡ true → length (expr_bytes (decode n bs).ops) + n ≡ length bs)
         → length (expr_bytes (and_then o (λ n. decode n bs)).ops) + 0 ≡ suc (length bs)
-    go none e w ih = let z : ◌≡◌ {A = ℕ} 0 1 = cc in absurd (omega arith)
+    go none e w ih = absurd cc
     go (some t) e w ih =
         let l = taken_long b bs t e in
         omega (arith, length-append (op_bytes t.op) (expr_bytes (decode t.bytes bs).ops), ih t.bytes l.there w, l.own)

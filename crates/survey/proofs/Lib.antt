@@ -1,7 +1,6 @@
 pub mod Literals
 pub mod Masks
 pub mod Peeling
-pub mod Framed
 pub mod Strides
 pub mod Standing
 pub mod Parts

@@ -1,31 +1,26 @@
 -- Parts of the table, one after the other.
-use Rattle.std.proofs.Common.{◌≡◌, ℕ, zero, suc, ◌+◌, ◌<◌, ◌≤◌, Bool, cond, ◌≢◌, List, [], ◌∷◌, length, set, sym, refl, ap, ◌∙◌, subst, ⊎_elim, arith, get_or-set_other, get_or-set_same, le-ltb, lt-ltb}
-use Rattle.std.proofs.lemmas.List.{length-set}
+use Rattle.std.proofs.Common.{◌≡◌, ℕ, ◌+◌, ◌<◌, ◌≤◌, ◌≢◌, List, length, set, sym, ◌∙◌, subst, ⊎_elim, arith, get_or-set_other, get_or-set_same}
+use Rattle.std.proofs.lemmas.List.{length-set, set_past}
 use Rattle.std.proofs.lemmas.Bool.{cases_lt, cases_eq}
+use Rattle.std.proofs.lemmas.Bool.Decides.{nat_tests}
 use Rattle.survey.specs.Filling.{Filled, Right, place_past}
 use Rattle.survey.specs.Table.{nil_step, step_at_place}
 use Rattle.survey.specs.declared.table.Step.{Step}
 
 -- The place behind another, in the script and at its end.
 pub within : {place next : ℕ} → next ≡ place_past place → place < 512 → next ≡ place + 1
-within {place} {next} e h = e ∙ ap (λ (b : Bool). cond b (place + 1) place) (lt-ltb place 512 h)
+within {place} {next} e h = grind (arith, nat_tests)
 
 pub over : {place next : ℕ} → next ≡ place_past place → 512 ≤ place → next ≡ place
-over {place} {next} e h = e ∙ ap (λ (b : Bool). cond b (place + 1) place) (le-ltb place 512 h)
+over {place} {next} e h = grind (arith, nat_tests)
 
 -- It does not lie before it.
 pub not_back : {place next : ℕ} → next ≡ place_past place → place ≤ next
-not_back {place} {next} e = ⊎_elim (λ h. omega (arith, within e h)) (λ h. omega (arith, over e h)) (cases_lt place 512)
+not_back {place} {next} e = grind (arith, nat_tests)
 
 -- Nor past the end.
 pub not_over : {place next : ℕ} → next ≡ place_past place → place ≤ 512 → next ≤ 512
-not_over {place} {next} e l = ⊎_elim (λ h. omega (arith, within e h)) (λ h. omega (arith, over e h)) (cases_lt place 512)
-
--- Past its end a list stays.
-pub set_past : {A : Type 0} (xs : List A) (i : ℕ) (x : A) → length xs ≤ i → xs ≡ set xs i x
-set_past [] i x h = refl
-set_past (y ∷ xs) zero x h = absurd (omega arith)
-set_past (y ∷ xs) (suc i) x h = ap (λ zs. y ∷ zs) (set_past xs i x (omega arith))
+not_over {place} {next} e l = grind (arith, nat_tests)
 
 module _ {slab : List ℕ} where
   pub nowhere : (a : ℕ) (t : List Step) → Filled slab a a t t
@@ -43,7 +38,7 @@ module _ {slab : List ℕ} where
       stays : (q : ℕ) → Right slab q (step_at_place t q) → Right slab q (step_at_place (set t p st) q)
       stays q h =
           ⊎_elim
-          (λ s. ⊎_elim (here q s) (λ past. subst (λ (u : List Step). Right slab q (step_at_place u q)) (set_past t p st past) h) (cases_lt p (length t)))
+          (λ s. ⊎_elim (here q s) (λ past. subst (λ (u : List Step). Right slab q (step_at_place u q)) (sym (set_past t p st past)) h) (cases_lt p (length t)))
           (λ n. elsewhere q n h)
           (cases_eq q p)
 

@@ -1,5 +1,5 @@
 -- What the first frame of a stretch says of its code.
-use Rattle.std.proofs.Common.{◌≡◌, ℕ, zero, suc, ◌+◌, ◌<◌, ◌≤◌, max, Bool, true, false, ◌&&◌, ◌||◌, T, List, [], ◌∷◌, length, drop, sym, refl, ap, ◌∙◌, subst, add-one, arith}
+use Rattle.std.proofs.Common.{◌≡◌, ℕ, zero, suc, ◌+◌, ◌<◌, ◌≤◌, max, Bool, true, false, ◌&&◌, ◌||◌, T, List, [], ◌∷◌, length, drop, sym, refl, ap, ◌∙◌, subst, add-one, arith, rules}
 use mathlib.Core.Option.{none, some}
 use lib.Bits.{bit_or, or_zero_l}
 use Rattle.lattice.specs.Levels.{Levels}
@@ -13,15 +13,15 @@ use Rattle.script.specs.Trees.{flatten}
 use Rattle.script.specs.Slabs.{Holds, frame_number}
 use Rattle.script.proofs.Holding.{held_few}
 use Rattle.model.specs.Stretches.{is_literal_one}
-use Rattle.model.proofs.Places.Skipping.{drop_next}
+use Rattle.model.proofs.Places.Skipping.{drop_next, frame_here}
 use Rattle.survey.specs.declared.Stretch.{Stretch}
-use Rattle.survey.specs.Stretches.{Closed, Survey, Surveyed, closing, has_bit}
+use Rattle.survey.specs.Stretches.{Closed, Survey, Surveyed, assigning, both_ways, closing, followed, has_bit, held, no_command, repeated}
 use Rattle.survey.specs.Bits.{bit}
 use Rattle.survey.proofs.Masks.{bit_alone, bit_none, has_bit-bit_or}
 
 -- A frame that was found stands first at its place.
 pub first_frame : (fs : List Frame) (at : ℕ) (rd : Read) → some rd ≡ frame_number at fs → (gs : List Frame) × (drop at fs ≡ rd.frame ∷ gs) × (rd.whole ≡ true) × (at < length fs)
-first_frame [] at rd e = let z : ◌≡◌ {A = ℕ} 0 1 = cc in absurd (omega arith)
+first_frame [] at rd e = absurd cc
 first_frame (f ∷ fs) zero rd e =
     let same : rd ≡ whole f = cc in
     (fs, ap (λ (x : Read). x.frame ∷ fs) (sym same), ap (λ (x : Read). x.whole) same, omega arith)
@@ -47,22 +47,7 @@ Begins end_with c = c ≡ done
 Begins (last m) c = c ≡ done
 
 ends : (f : Frame) → T (closing f) → Begins f done
-ends (header h) t = absurd t
-ends (track i l z) t = absurd t
-ends (channel i l z) t = absurd t
-ends (thread i) t = absurd t
-ends thread_end t = refl
-ends Frame.skip t = absurd t
-ends (Frame.assign x e) t = absurd t
-ends (Frame.put h e) t = absurd t
-ends (if e) t = absurd t
-ends else t = refl
-ends end_if t = refl
-ends (while e) t = absurd t
-ends end_while t = refl
-ends (with m e) t = absurd t
-ends end_with t = refl
-ends (last m) t = absurd t
+ends f t = search rules
 
 begins : (c : Code) (r gs : List Frame) (f : Frame) → f ∷ gs ≡ flatten c r → Closed r → Begins f c
 begins done r gs f e h = ends f (subst Closed (sym e) h)
@@ -78,15 +63,7 @@ abbrev pub Past : ℕ → ℕ → Type 0
 Past at next = at < 512 → next ≡ at + 1
 
 pub stepped : (fs : List Frame) (at next : ℕ) (f : Frame) (gs : List Frame) → length fs ≤ 512 → Past at next → drop at fs ≡ f ∷ gs → drop next fs ≡ gs
-stepped fs at next f gs few p e =
-    let l = longer at fs f gs e in
-    ap (λ (m : ℕ). drop m fs) (p (omega arith) ∙ add-one at) ∙ drop_next at fs e
-  where
-    longer : (n : ℕ) (xs : List Frame) (g : Frame) (hs : List Frame) → drop n xs ≡ g ∷ hs → n < length xs
-    longer zero [] g hs h = let z : ◌≡◌ {A = ℕ} 0 1 = cc in absurd (omega arith)
-    longer zero (x ∷ xs) g hs h = omega arith
-    longer (suc n) [] g hs h = let z : ◌≡◌ {A = ℕ} 0 1 = cc in absurd (omega arith)
-    longer (suc n) (x ∷ xs) g hs h = let l = longer n xs g hs h in omega arith
+stepped fs at next f gs few p e = let here = (frame_here at fs f e).1 in ap (λ (m : ℕ). drop m fs) (p (omega arith) ∙ add-one at) ∙ drop_next at fs e
 
 -- Where no frame is found no stretch stands.
 pub none_found : (slab : List ℕ) (at : ℕ) (s : Stretch) → ((kind : ℕ) (k : Levels) (fs : List Frame) → Holds kind k slab fs → none ≡ frame_number at fs) → Survey slab at s
@@ -94,45 +71,19 @@ none_found slab at s none_is kind k fs h c r e cl = absurd (go fs at (none_is ki
   where
     nonempty : (c : Code) (r : List Frame) → Closed r → [] ≡ flatten c r → ⊥
     nonempty done [] cl e = cl
-    nonempty done (f ∷ r) cl e = let z : ◌≡◌ {A = ℕ} 0 1 = cc in omega arith
-    nonempty (skip n) r cl e = let z : ◌≡◌ {A = ℕ} 0 1 = cc in omega arith
-    nonempty (assign x o n) r cl e = let z : ◌≡◌ {A = ℕ} 0 1 = cc in omega arith
-    nonempty (put x o n) r cl e = let z : ◌≡◌ {A = ℕ} 0 1 = cc in omega arith
-    nonempty (branch o p q n) r cl e = let z : ◌≡◌ {A = ℕ} 0 1 = cc in omega arith
-    nonempty (loop o b n) r cl e = let z : ◌≡◌ {A = ℕ} 0 1 = cc in omega arith
-    nonempty (lock m o b n) r cl e = let z : ◌≡◌ {A = ℕ} 0 1 = cc in omega arith
+    nonempty done (f ∷ r) cl e = cc
+    nonempty (skip n) r cl e = cc
+    nonempty (assign x o n) r cl e = cc
+    nonempty (put x o n) r cl e = cc
+    nonempty (branch o p q n) r cl e = cc
+    nonempty (loop o b n) r cl e = cc
+    nonempty (lock m o b n) r cl e = cc
 
     go : (fs : List Frame) (at : ℕ) → none ≡ frame_number at fs → (c : Code) (r : List Frame) → drop at fs ≡ flatten c r → Closed r → ⊥
     go [] zero n c r e cl = nonempty c r cl e
     go [] (suc at) n c r e cl = nonempty c r cl e
-    go (f ∷ fs) zero n c r e cl = let z : ◌≡◌ {A = ℕ} 0 1 = cc in omega arith
+    go (f ∷ fs) zero n c r e cl = cc
     go (f ∷ fs) (suc at) n c r e cl = go fs at n c r e cl
-
--- What each kind of command makes of what follows it.
-
-abbrev pub commanded : ℕ → Stretch → Stretch
-commanded bits s = record { fixed = s.fixed; duration = s.duration + 1; needed = s.needed; assigned = bit_or bits s.assigned; end = s.end }
-
-abbrev pub branched : Stretch → Stretch → Stretch → Stretch
-branched a b s = record {
-  fixed = (a.fixed && b.fixed) && s.fixed;
-  duration = max a.duration b.duration + s.duration + 2;
-  needed = bit_or (bit_or a.needed b.needed) s.needed;
-  assigned = bit_or (bit_or a.assigned b.assigned) s.assigned;
-  end = s.end;
-}
-
-abbrev pub repeated : Stretch → Stretch → Stretch
-repeated b s = record { fixed = false; duration = 0; needed = bit_or b.needed s.needed; assigned = bit_or b.assigned s.assigned; end = s.end }
-
-abbrev pub held_in : ℕ → Bool → Stretch → Stretch → Stretch
-held_in m one b s = record {
-  fixed = (one && b.fixed) && s.fixed;
-  duration = b.duration + s.duration + 2;
-  needed = bit_or (bit_or m b.needed) s.needed;
-  assigned = bit_or b.assigned s.assigned;
-  end = s.end;
-}
 
 -- Whether a frame is that of a command.
 abbrev pub is_command : Frame → Bool
@@ -153,23 +104,8 @@ is_command (with m e) = true
 is_command end_with = false
 is_command (last m) = false
 
-no_command : (f : Frame) (c : Code) → is_command f ≡ false → Begins f c → c ≡ done
-no_command (header h) c e b = b
-no_command (track i l z) c e b = b
-no_command (channel i l z) c e b = b
-no_command (thread i) c e b = b
-no_command thread_end c e b = b
-no_command Frame.skip c e b = let z : ◌≡◌ {A = ℕ} 0 1 = cc in absurd (omega arith)
-no_command (Frame.assign x o) c e b = let z : ◌≡◌ {A = ℕ} 0 1 = cc in absurd (omega arith)
-no_command (Frame.put h o) c e b = let z : ◌≡◌ {A = ℕ} 0 1 = cc in absurd (omega arith)
-no_command (if o) c e b = let z : ◌≡◌ {A = ℕ} 0 1 = cc in absurd (omega arith)
-no_command else c e b = b
-no_command end_if c e b = b
-no_command (while o) c e b = let z : ◌≡◌ {A = ℕ} 0 1 = cc in absurd (omega arith)
-no_command end_while c e b = b
-no_command (with m o) c e b = let z : ◌≡◌ {A = ℕ} 0 1 = cc in absurd (omega arith)
-no_command end_with c e b = b
-no_command (last m) c e b = b
+only_done : (f : Frame) (c : Code) → is_command f ≡ false → Begins f c → c ≡ done
+only_done f c e b = search rules
 
 module _ (slab : List ℕ) (at : ℕ) (rd : Read) (found : (kind : ℕ) (k : Levels) (fs : List Frame) → Holds kind k slab fs → some rd ≡ frame_number at fs) where
   -- The code at the place begins with the frame that was found.
@@ -178,39 +114,38 @@ module _ (slab : List ℕ) (at : ℕ) (rd : Read) (found : (kind : ℕ) (k : Lev
       let p = first_frame fs at rd (found kind k fs h) in
       subst (λ (x : Frame). Begins x c) is (begins c r p.0 rd.frame (sym p.1 ∙ e) cl)
 
-  pub at_other : is_command rd.frame ≡ false → Survey slab at (record { fixed = true; duration = 0; needed = 0; assigned = 0; end = at })
+  pub at_other : is_command rd.frame ≡ false → Survey slab at (no_command at)
   at_other o kind k fs h c r e cl =
-      let d = no_command rd.frame c o (found_begins kind k fs h c r e cl rd.frame refl) in
-      subst (λ (x : Code). drop at fs ≡ flatten x r → Surveyed x (record { fixed = true; duration = 0; needed = 0; assigned = 0; end = at }) × (drop at fs ≡ r)) (sym d)
+      let d = only_done rd.frame c o (found_begins kind k fs h c r e cl rd.frame refl) in
+      subst (λ (x : Code). drop at fs ≡ flatten x r → Surveyed x (no_command at) × (drop at fs ≡ r)) (sym d)
       (λ here. (record { fixed = refl; duration = refl; needed = refl; assigned = λ x l. bit_none x }, here)) e
 
   module _ (next : ℕ) (past : Past at next) (s : Stretch) (later : Survey slab next s) where
     behind : (kind : ℕ) (k : Levels) (fs : List Frame) → Holds kind k slab fs → (f : Frame) (n : Code) (r : List Frame) → drop at fs ≡ f ∷ flatten n r → Closed r → Surveyed n s × (drop s.end fs ≡ r)
     behind kind k fs h f n r e cl = later kind k fs h n r (stepped fs at next f (flatten n r) (held_few kind k slab fs h) past e) cl
 
-    pub at_skip : rd.frame ≡ Frame.skip → Survey slab at (commanded 0 s)
-    at_skip is kind k fs h c r e cl =
-        let b = found_begins kind k fs h c r e cl Frame.skip is in
-        let n = b.0 in
-        let a = behind kind k fs h Frame.skip n r (e ∙ ap (λ (x : Code). flatten x r) b.1) cl in
-        subst (λ (x : Code). Surveyed x (commanded 0 s) × (drop s.end fs ≡ r)) (sym b.1)
-        (record { fixed = a.0.fixed; duration = omega (arith, a.0.duration); needed = a.0.needed; assigned = λ v l. ap (λ (mask : ℕ). has_bit mask v) (or_zero_l s.assigned) ∙ a.0.assigned v l }, a.1)
+    -- A command that is no block.
+    at_command : (f : Frame) (wrap : Code → Code) → ((c : Code) → Begins f c → (n : Code) × (c ≡ wrap n)) → ((n : Code) (r : List Frame) → flatten (wrap n) r ≡ f ∷ flatten n r)
+        → (a : Stretch) → ((n : Code) → Surveyed n s → Surveyed (wrap n) (followed a 1 s)) → rd.frame ≡ f → Survey slab at (followed a 1 s)
+    at_command f wrap begun flat a told is kind k fs h c r e cl =
+        let b = begun c (found_begins kind k fs h c r e cl f is) in
+        let z = behind kind k fs h f b.0 r (e ∙ ap (λ (x : Code). flatten x r) b.1 ∙ flat b.0 r) cl in
+        subst (λ (x : Code). Surveyed x (followed a 1 s) × (drop s.end fs ≡ r)) (sym b.1) (told b.0 z.0, z.1)
 
-    pub at_put : (o : ℕ) (x : Expr) → rd.frame ≡ Frame.put o x → Survey slab at (commanded 0 s)
-    at_put o x is kind k fs h c r e cl =
-        let b = found_begins kind k fs h c r e cl (Frame.put o x) is in
-        let n = b.0 in
-        let a = behind kind k fs h (Frame.put o x) n r (e ∙ ap (λ (y : Code). flatten y r) b.1) cl in
-        subst (λ (y : Code). Surveyed y (commanded 0 s) × (drop s.end fs ≡ r)) (sym b.1)
-        (record { fixed = a.0.fixed; duration = omega (arith, a.0.duration); needed = a.0.needed; assigned = λ v l. ap (λ (mask : ℕ). has_bit mask v) (or_zero_l s.assigned) ∙ a.0.assigned v l }, a.1)
+    nothing : (x : ℕ) (b : Bool) → has_bit s.assigned x ≡ b → has_bit (bit_or 0 s.assigned) x ≡ b
+    nothing x b h = ap (λ (mask : ℕ). has_bit mask x) (or_zero_l s.assigned) ∙ h
 
-    pub at_assign : (v : ℕ) (x : Expr) → rd.frame ≡ Frame.assign v x → Survey slab at (commanded (bit v) s)
-    at_assign v x is kind k fs h c r e cl =
-        let b = found_begins kind k fs h c r e cl (Frame.assign v x) is in
-        let n = b.0 in
-        let a = behind kind k fs h (Frame.assign v x) n r (e ∙ ap (λ (y : Code). flatten y r) b.1) cl in
-        subst (λ (y : Code). Surveyed y (commanded (bit v) s) × (drop s.end fs ≡ r)) (sym b.1)
-        (record { fixed = a.0.fixed; duration = omega (arith, a.0.duration); needed = a.0.needed; assigned = λ y l. has_bit-bit_or (bit v) s.assigned y ∙ (λ i. bit_alone y v l i || a.0.assigned y l i) }, a.1)
+    pub at_skip : rd.frame ≡ Frame.skip → Survey slab at (followed (no_command at) 1 s)
+    at_skip = at_command Frame.skip skip (λ c b. b) (λ n r. refl) (no_command at)
+        (λ n t. record { fixed = t.fixed; duration = omega (arith, t.duration); needed = or_zero_l s.needed ∙ t.needed; assigned = λ x l. nothing x _ (t.assigned x l) })
+
+    pub at_put : (o : ℕ) (e : Expr) → rd.frame ≡ Frame.put o e → Survey slab at (followed (no_command at) 1 s)
+    at_put o e = at_command (Frame.put o e) (put o e) (λ c b. b) (λ n r. refl) (no_command at)
+        (λ n t. record { fixed = t.fixed; duration = omega (arith, t.duration); needed = or_zero_l s.needed ∙ t.needed; assigned = λ x l. nothing x _ (t.assigned x l) })
+
+    pub at_assign : (v : ℕ) (e : Expr) → rd.frame ≡ Frame.assign v e → Survey slab at (followed (assigning v at) 1 s)
+    at_assign v e = at_command (Frame.assign v e) (assign v e) (λ c b. b) (λ n r. refl) (assigning v at)
+        (λ n t. record { fixed = t.fixed; duration = omega (arith, t.duration); needed = or_zero_l s.needed ∙ t.needed; assigned = λ x l. has_bit-bit_or (bit v) s.assigned x ∙ (λ i. bit_alone x v l i || t.assigned x l i) })
 
     -- Here s is the first block behind the frame, and t what stands behind its end.
     module _ (next' : ℕ) (past' : Past s.end next') (t : Stretch) (later' : Survey slab next' t) where
@@ -225,7 +160,7 @@ module _ (slab : List ℕ) (at : ℕ) (rd : Read) (found : (kind : ℕ) (k : Lev
           subst (λ (y : Code). Surveyed y (repeated s t) × (drop t.end fs ≡ r)) (sym b.2)
           (record { fixed = refl; duration = refl; needed = λ i. bit_or (a.0.needed i) (z.0.needed i); assigned = λ v l. has_bit-bit_or s.assigned t.assigned v ∙ (λ i. a.0.assigned v l i || z.0.assigned v l i) }, z.1)
 
-      pub at_with : (m : ℕ) (x : Expr) (one : Bool) → rd.frame ≡ with m x → (rd.whole ≡ true → one ≡ is_literal_one x) → Survey slab at (held_in m one s t)
+      pub at_with : (m : ℕ) (x : Expr) (one : Bool) → rd.frame ≡ with m x → (rd.whole ≡ true → one ≡ is_literal_one x) → Survey slab at (followed (held m one s) 2 t)
       at_with m x one is lit kind k fs h c r e cl =
           let few = held_few kind k slab fs h in
           let p = first_frame fs at rd (found kind k fs h) in
@@ -234,7 +169,7 @@ module _ (slab : List ℕ) (at : ℕ) (rd : Read) (found : (kind : ℕ) (k : Lev
           let n = b.1 in
           let a = behind kind k fs h (with m x) body (end_with ∷ flatten n r) (e ∙ ap (λ (y : Code). flatten y r) b.2) tt in
           let z = later' kind k fs h n r (stepped fs s.end next' end_with (flatten n r) few past' a.1) cl in
-          subst (λ (y : Code). Surveyed y (held_in m one s t) × (drop t.end fs ≡ r)) (sym b.2) (
+          subst (λ (y : Code). Surveyed y (followed (held m one s) 2 t) × (drop t.end fs ≡ r)) (sym b.2) (
             record {
               fixed = λ i. (lit p.2 i && a.0.fixed i) && z.0.fixed i;
               duration = omega (arith, a.0.duration, z.0.duration);
@@ -245,7 +180,7 @@ module _ (slab : List ℕ) (at : ℕ) (rd : Read) (found : (kind : ℕ) (k : Lev
           )
 
       module _ (next'' : ℕ) (past'' : Past t.end next'') (u : Stretch) (later'' : Survey slab next'' u) where
-        pub at_if : (x : Expr) → rd.frame ≡ if x → Survey slab at (branched s t u)
+        pub at_if : (x : Expr) → rd.frame ≡ if x → Survey slab at (followed (both_ways s t) 2 u)
         at_if x is kind k fs h c r e cl =
             let few = held_few kind k slab fs h in
             let b = found_begins kind k fs h c r e cl (if x) is in
@@ -255,7 +190,7 @@ module _ (slab : List ℕ) (at : ℕ) (rd : Read) (found : (kind : ℕ) (k : Lev
             let a = behind kind k fs h (if x) p (else ∷ flatten q (end_if ∷ flatten n r)) (e ∙ ap (λ (y : Code). flatten y r) b.3) tt in
             let z = later' kind k fs h q (end_if ∷ flatten n r) (stepped fs s.end next' else (flatten q (end_if ∷ flatten n r)) few past' a.1) tt in
             let w = later'' kind k fs h n r (stepped fs t.end next'' end_if (flatten n r) few past'' z.1) cl in
-            subst (λ (y : Code). Surveyed y (branched s t u) × (drop u.end fs ≡ r)) (sym b.3) (
+            subst (λ (y : Code). Surveyed y (followed (both_ways s t) 2 u) × (drop u.end fs ≡ r)) (sym b.3) (
               record {
                 fixed = λ i. (a.0.fixed i && z.0.fixed i) && w.0.fixed i;
                 duration = lasts a.0.duration z.0.duration w.0.duration;

@@ -75,10 +75,10 @@ block_end fs at end f x c r short z is e =
 
 module _ (slab : List ℕ) (at : ℕ) where
   pub right_skip : Finds slab at (whole Frame.skip) → Right slab at (plain_step Skip)
-  right_skip found = simple Frame.skip (λ e q. let z : ◌≡◌ {A = ℕ} 0 1 = cc in omega arith) (λ w. let a = found_at slab at (whole Frame.skip) found w in (a.rest, a.is, refl))
+  right_skip found = simple Frame.skip (λ e q. cc) (λ w. let a = found_at slab at (whole Frame.skip) found w in (a.rest, a.is, refl))
 
   pub right_assign : (x : ℕ) (bytes : List ℕ) → Finds slab at (decoded (Frame.assign x) bytes) → Right slab at (reading_step Assign x 0 0 at 2 (length bytes))
-  right_assign x bytes found = simple (Frame.assign x (decode 0 bytes).ops) (λ e q. let z : ◌≡◌ {A = ℕ} 0 1 = cc in omega arith) (λ w.
+  right_assign x bytes found = simple (Frame.assign x (decode 0 bytes).ops) (λ e q. cc) (λ w.
       let a = found_at slab at (decoded (Frame.assign x) bytes) found w in
       let f = Frame.assign x (decode 0 bytes).ops in (
         a.rest,
@@ -92,7 +92,7 @@ module _ (slab : List ℕ) (at : ℕ) where
       ))
 
   pub right_put : (x : ℕ) (bytes : List ℕ) → Finds slab at (decoded (Frame.put x) bytes) → Right slab at (reading_step Put x 0 0 at 2 (length bytes))
-  right_put x bytes found = simple (Frame.put x (decode 0 bytes).ops) (λ e q. let z : ◌≡◌ {A = ℕ} 0 1 = cc in omega arith) (λ w.
+  right_put x bytes found = simple (Frame.put x (decode 0 bytes).ops) (λ e q. cc) (λ w.
       let a = found_at slab at (decoded (Frame.put x) bytes) found w in
       let f = Frame.put x (decode 0 bytes).ops in (
         a.rest,
@@ -120,7 +120,7 @@ module _ (slab : List ℕ) (at : ℕ) where
           (b, r, is, (surveyed w (while (decode 0 bytes).ops) b end_while r tt is).1)
 
       pub right_while : Right slab at (reading_step While 0 0 (place_past s.end) at 1 (length bytes))
-      right_while = simple (while (decode 0 bytes).ops) (λ e q. let z : ◌≡◌ {A = ℕ} 0 1 = cc in omega arith) (λ w.
+      right_while = simple (while (decode 0 bytes).ops) (λ e q. cc) (λ w.
           let a = found_at slab at (decoded while bytes) found w in
           let l = loop-at w in
           let f = while (decode 0 bytes).ops in (
@@ -138,11 +138,11 @@ module _ (slab : List ℕ) (at : ℕ) where
           ))
 
       pub right_end_while : Right slab s.end (plain_step EndWhile)
-      right_end_while = simple end_while (λ e q. let z : ◌≡◌ {A = ℕ} 0 1 = cc in omega arith) (λ w. let l = loop-at w in (l.1, l.3, refl))
+      right_end_while = simple end_while (λ e q. cc) (λ w. let l = loop-at w in (l.1, l.3, refl))
 
     module _ (m : ℕ) (bytes : List ℕ) (found : Finds slab at (decoded (with m) bytes)) where
       pub right_with : Right slab at (reading_step With 0 m 0 at 3 (length bytes))
-      right_with = simple (with m (decode 0 bytes).ops) (λ e q. let z : ◌≡◌ {A = ℕ} 0 1 = cc in omega arith) (λ w.
+      right_with = simple (with m (decode 0 bytes).ops) (λ e q. cc) (λ w.
           let a = found_at slab at (decoded (with m) bytes) found w in
           let f = with m (decode 0 bytes).ops in (
             a.rest,
@@ -158,7 +158,7 @@ module _ (slab : List ℕ) (at : ℕ) where
           ))
 
       pub right_end_with : Right slab s.end (plain_step EndWith)
-      right_end_with = simple end_with (λ e q. let z : ◌≡◌ {A = ℕ} 0 1 = cc in omega arith) (λ w.
+      right_end_with = simple end_with (λ e q. cc) (λ w.
           let a = found_at slab at (decoded (with m) bytes) found w in
           let f = with m (decode 0 bytes).ops in
           (a.stands.1, (surveyed w f a.stands.0 end_with a.stands.1 tt (a.is ∙ ap (λ (gs : List Frame). f ∷ gs) a.stands.2)).1, refl))
@@ -216,12 +216,12 @@ module _ (slab : List ℕ) (at : ℕ) where
         right_if = record { here = if_reads; ways = if_ways }
 
         pub right_else : Right slab s.end (closing_step Else (place_past t.end))
-        right_else = simple else (λ e q. let z : ◌≡◌ {A = ℕ} 0 1 = cc in omega arith) (λ w.
+        right_else = simple else (λ e q. cc) (λ w.
             let i = if_at w in
             let h = both_ways w (decode 0 bytes).ops i.0 i.1 i.2 i.3 in
             (flatten i.1 (end_if ∷ i.2), h.middle, (refl, block_end (frames w) s.end t.end else end_if i.1 i.2 (few w) refl h.middle h.end)))
 
         pub right_end_if : Right slab t.end (plain_step EndIf)
-        right_end_if = simple end_if (λ e q. let z : ◌≡◌ {A = ℕ} 0 1 = cc in omega arith) (λ w.
+        right_end_if = simple end_if (λ e q. cc) (λ w.
             let i = if_at w in
             (i.2, (both_ways w (decode 0 bytes).ops i.0 i.1 i.2 i.3).end, refl))

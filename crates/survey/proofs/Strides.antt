@@ -1,5 +1,5 @@
 -- A walk over a script's table goes as the machine's walk over its frames.
-use Rattle.std.proofs.Common.{◌≡◌, ℕ, zero, suc, ◌+◌, ◌<◌, ◌≤◌, min, Bool, true, false, cond, ltb, List, [], ◌∷◌, length, drop, set, sym, refl, ap, ◌∙◌, subst, ⊎_elim, add-one, arith, length-set, ltb-false, ltb-true}
+use Rattle.std.proofs.Common.{◌≡◌, ℕ, zero, suc, ◌+◌, ◌<◌, ◌≤◌, min, Bool, true, false, cond, ltb, List, [], ◌∷◌, length, drop, set, sym, refl, ap, ◌∙◌, subst, ⊎_elim, add-one, arith, length-set, ltb-false, ltb-true, rules}
 use Rattle.std.proofs.lemmas.Bool.{cases_lt}
 use Rattle.std.proofs.lemmas.List.{get_or_past}
 use Rattle.lattice.specs.Levels.{Levels}
@@ -57,19 +57,7 @@ left_within : (p : ℕ) (w : Around) → Within p w → Within (suc p) (left w)
 left_within p w n = record { begun = omega arith; ended = omega arith; depth = omega arith; room = n.room }
 
 strode_within : (p : ℕ) (kind : Kind) (w : Around) → Within p w → Within (suc p) (strode p kind w)
-strode_within p Other w n = later_within p w n
-strode_within p Begin w n = record { begun = omega arith; ended = omega arith; depth = n.depth; room = n.room }
-strode_within p End w n = record { begun = omega arith; ended = omega arith; depth = n.depth; room = n.room }
-strode_within p Skip w n = later_within p w n
-strode_within p Assign w n = later_within p w n
-strode_within p Put w n = later_within p w n
-strode_within p If w n = entered_within p w n
-strode_within p Else w n = later_within p w n
-strode_within p EndIf w n = left_within p w n
-strode_within p While w n = entered_within p w n
-strode_within p EndWhile w n = left_within p w n
-strode_within p With w n = entered_within p w n
-strode_within p EndWith w n = left_within p w n
+strode_within p kind w n = search (rules, later_within, entered_within, left_within)
 
 within : (table : List Step) (p : ℕ) → Within p (walked table p)
 unfolding walked
@@ -123,22 +111,7 @@ kind_of (last m) = Other
 
 module _ (h : Head) (code : List ℕ) (q : ℕ) (st : Step) where
   reads_first : (f : Frame) (gs : List Frame) → Reads h code q st (f ∷ gs) → st.kind ≡ kind_of f
-  reads_first (header d) gs r = r
-  reads_first (track i l z) gs r = r
-  reads_first (channel i l z) gs r = r
-  reads_first (thread i) gs r = r
-  reads_first thread_end gs r = r
-  reads_first Frame.skip gs r = r
-  reads_first (Frame.assign x e) gs r = r.0
-  reads_first (Frame.put x e) gs r = r.0
-  reads_first (if e) gs r = r.0
-  reads_first else gs r = r.0
-  reads_first end_if gs r = r
-  reads_first (while e) gs r = r.0
-  reads_first end_while gs r = r
-  reads_first (with m e) gs r = r.0
-  reads_first end_with gs r = r
-  reads_first (last m) gs r = r
+  reads_first f gs r = search rules
 
   -- A step has the kind of the frame at its place.
   pub reads_kind : (fs : List Frame) (p : ℕ) → Reads h code q st (drop p fs) → st.kind ≡ kind_of (frame_at fs p)
@@ -167,22 +140,7 @@ leaves w v m = record { begun = m.begun; ended = m.ended; openers = ends w.opene
 
 -- Over a frame both walks go alike, where the machine's opens no more than 16 blocks.
 strides : (p : ℕ) (f : Frame) (w : Around) (v : Walk) → Met w v → length w.openers ≡ 16 → length (stride p f v).openers ≤ 16 → Met (strode p (kind_of f) w) (stride p f v)
-strides p (header h) w v m n l = m
-strides p (track i x z) w v m n l = m
-strides p (channel i x z) w v m n l = m
-strides p (thread i) w v m n l = record { begun = omega (arith, m.begun); ended = m.ended; openers = m.openers }
-strides p thread_end w v m n l = record { begun = m.begun; ended = omega (arith, m.ended); openers = m.openers }
-strides p Frame.skip w v m n l = m
-strides p (Frame.assign x e) w v m n l = m
-strides p (Frame.put x e) w v m n l = m
-strides p (if e) w v m n l = enters p w v m n l
-strides p else w v m n l = m
-strides p end_if w v m n l = leaves w v m
-strides p (while e) w v m n l = enters p w v m n l
-strides p end_while w v m n l = leaves w v m
-strides p (with x e) w v m n l = enters p w v m n l
-strides p end_with w v m n l = leaves w v m
-strides p (last x) w v m n l = m
+strides p f w v m n l = search (rules, enters, leaves)
 
 module _ (kind : ℕ) (k : Levels) (sc : Script) (h : Head) (code : List ℕ) (table : List Step) (valid : ValidScript kind k sc) (tabled : Tabled h code table (script_frames sc)) where
   follows : (p : ℕ) → Met (walked table p) (around (script_frames sc) p)

@@ -1,13 +1,16 @@
 -- The whole table, thread by thread.
-use Rattle.std.proofs.Common.{◌≡◌, ℕ, zero, suc, ◌+◌, ◌<◌, ◌≤◌, Bool, true, false, T, List, [], ◌∷◌, length, take, drop, sym, refl, ap, ◌∙◌, subst, ⊎_elim, add-one, arith, length-take-le, get_or-take}
+use Rattle.std.proofs.Common.{◌≡◌, ℕ, zero, suc, ◌+◌, ◌<◌, ◌≤◌, Bool, true, false, T, List, [], ◌∷◌, length, take, drop, sym, refl, ap, ◌∙◌, subst, ⊎_elim, add-one, arith, length-take-le, get_or-take, Option, Some, None, MatchOption, rules}
 use mathlib.Core.Option.{none}
 use Rattle.std.proofs.lemmas.List.{drop_all, get_or_past}
 use Rattle.std.proofs.lemmas.Bool.{cases_lt}
 use Rattle.codec.specs.Expressions.{Expr}
 use Rattle.codec.specs.Frames.{Frame, Head, Read}
-use Rattle.codec.specs.Frames.Frame.{header, track, channel, thread, thread_end, if, else, end_if, while, end_while, with, end_with, last}
+use Rattle.codec.specs.Shapes.{read_of}
+use Rattle.codec.specs.declared.frames.Frame.{Frame as Coded}
+use Rattle.codec.specs.Frames.Frame.{thread, thread_end, if}
 use Rattle.script.specs.Code.{Code}
 use Rattle.script.specs.Code.Code.{branch}
+use Rattle.script.specs.Promises.{FrameFound}
 use Rattle.script.specs.Slabs.{frame_number}
 use Rattle.script.specs.Trees.{flatten, head_of, script_frames}
 use Rattle.script.proofs.Holding.{held_few}
@@ -24,37 +27,26 @@ use Rattle.survey.proofs.Righting.{Finds, few, found_at, simple}
 use Rattle.survey.proofs.Standing.{Stands, everywhere}
 
 -- A frame that was found stands first.
-pub found_first : (slab : List ℕ) (at : ℕ) (rd : Read) (b : Bool) → Finds slab at rd → b ≡ is_thread rd.frame → BeginsThread slab at b
+found_first : (slab : List ℕ) (at : ℕ) (rd : Read) (b : Bool) → Finds slab at rd → b ≡ is_thread rd.frame → BeginsThread slab at b
 found_first slab at rd b found e w = e ∙ ap thread_first (sym (found_at slab at rd found w).is)
 
-pub none_first : (fs : List Frame) (at : ℕ) → none ≡ frame_number at fs → false ≡ thread_first (drop at fs)
+none_first : (fs : List Frame) (at : ℕ) → none ≡ frame_number at fs → false ≡ thread_first (drop at fs)
 none_first [] zero e = refl
 none_first [] (suc at) e = refl
-none_first (f ∷ fs) zero e = let z : ◌≡◌ {A = ℕ} 0 1 = cc in absurd (omega arith)
+none_first (f ∷ fs) zero e = absurd cc
 none_first (f ∷ fs) (suc at) e = none_first fs at e
 
+-- Whether the frame that was found begins a thread.
+pub found_begins : (slab : List ℕ) (at : ℕ) (found : Option Coded) (b : Bool) → FrameFound slab at found → MatchOption found (b ≡ false) (λ f. b ≡ is_thread (read_of f).frame) → BeginsThread slab at b
+found_begins slab at None b f e w = e ∙ none_first (script_frames w.script) at (f.held w.kind w.levels (script_frames w.script) w.holds)
+found_begins slab at (Some x) b f e w = found_first slab at (read_of x) b f.held e w
+
 never : false ≡ true → ⊥
-never e = let z : ◌≡◌ {A = ℕ} 0 1 = cc in omega arith
+never e = cc
 
 -- Frames outside of threads are no steps of theirs.
 other_reads : (h : Head) (slab : List ℕ) (p : ℕ) (gs : List Frame) → T (outer_first gs) → false ≡ thread_first gs → Reads h slab p (plain_step Other) gs
-other_reads h slab p [] o e = refl
-other_reads h slab p (header d ∷ gs) o e = refl
-other_reads h slab p (track i l z ∷ gs) o e = refl
-other_reads h slab p (channel i l z ∷ gs) o e = refl
-other_reads h slab p (thread i ∷ gs) o e = absurd (never e)
-other_reads h slab p (thread_end ∷ gs) o e = absurd o
-other_reads h slab p (Frame.skip ∷ gs) o e = absurd o
-other_reads h slab p (Frame.assign x v ∷ gs) o e = absurd o
-other_reads h slab p (Frame.put x v ∷ gs) o e = absurd o
-other_reads h slab p (if v ∷ gs) o e = absurd o
-other_reads h slab p (else ∷ gs) o e = absurd o
-other_reads h slab p (end_if ∷ gs) o e = absurd o
-other_reads h slab p (while v ∷ gs) o e = absurd o
-other_reads h slab p (end_while ∷ gs) o e = absurd o
-other_reads h slab p (with m v ∷ gs) o e = absurd o
-other_reads h slab p (end_with ∷ gs) o e = absurd o
-other_reads h slab p (last m ∷ gs) o e = refl
+other_reads h slab p gs o e = search rules
 
 -- What follows them stands outside too.
 abbrev rest_of : List Frame → List Frame
@@ -62,23 +54,7 @@ rest_of [] = []
 rest_of (f ∷ gs) = gs
 
 other_next : (h : Head) (gs : List Frame) → T (outer_first gs) → false ≡ thread_first gs → Stands h gs → T (outer_first (rest_of gs))
-other_next h [] o e s = tt
-other_next h (header d ∷ gs) o e s = s
-other_next h (track i l z ∷ gs) o e s = s
-other_next h (channel i l z ∷ gs) o e s = s
-other_next h (thread i ∷ gs) o e s = absurd (never e)
-other_next h (thread_end ∷ gs) o e s = absurd o
-other_next h (Frame.skip ∷ gs) o e s = absurd o
-other_next h (Frame.assign x v ∷ gs) o e s = absurd o
-other_next h (Frame.put x v ∷ gs) o e s = absurd o
-other_next h (if v ∷ gs) o e s = absurd o
-other_next h (else ∷ gs) o e s = absurd o
-other_next h (end_if ∷ gs) o e s = absurd o
-other_next h (while v ∷ gs) o e s = absurd o
-other_next h (end_while ∷ gs) o e s = absurd o
-other_next h (with m v ∷ gs) o e s = absurd o
-other_next h (end_with ∷ gs) o e s = absurd o
-other_next h (last m ∷ gs) o e s = s
+other_next h gs o e s = search rules
 
 drop_rest : (p : ℕ) (fs : List Frame) → drop (suc p) fs ≡ rest_of (drop p fs)
 drop_rest zero [] = refl
@@ -91,23 +67,7 @@ abbrev Threaded : List Frame → Type 0
 Threaded gs = (i : ℕ) × (c : Code) × (r : List Frame) × (gs ≡ thread i ∷ flatten c (thread_end ∷ r)) × T (outer_first r)
 
 threaded : (h : Head) (gs : List Frame) → true ≡ thread_first gs → Stands h gs → Threaded gs
-threaded h [] e s = absurd (never (sym e))
-threaded h (header d ∷ gs) e s = absurd (never (sym e))
-threaded h (track i l z ∷ gs) e s = absurd (never (sym e))
-threaded h (channel i l z ∷ gs) e s = absurd (never (sym e))
-threaded h (thread i ∷ gs) e s = (i, s.0, s.1, ap (λ (hs : List Frame). thread i ∷ hs) s.2, s.3)
-threaded h (thread_end ∷ gs) e s = absurd (never (sym e))
-threaded h (Frame.skip ∷ gs) e s = absurd (never (sym e))
-threaded h (Frame.assign x v ∷ gs) e s = absurd (never (sym e))
-threaded h (Frame.put x v ∷ gs) e s = absurd (never (sym e))
-threaded h (if v ∷ gs) e s = absurd (never (sym e))
-threaded h (else ∷ gs) e s = absurd (never (sym e))
-threaded h (end_if ∷ gs) e s = absurd (never (sym e))
-threaded h (while v ∷ gs) e s = absurd (never (sym e))
-threaded h (end_while ∷ gs) e s = absurd (never (sym e))
-threaded h (with m v ∷ gs) e s = absurd (never (sym e))
-threaded h (end_with ∷ gs) e s = absurd (never (sym e))
-threaded h (last m ∷ gs) e s = absurd (never (sym e))
+threaded h gs e s = search rules
 
 module _ (slab : List ℕ) (p : ℕ) where
   standing : (w : ScriptIn slab) → Stands (head_of w.script) (drop p (script_frames w.script))
@@ -136,7 +96,7 @@ module _ (slab : List ℕ) (p : ℕ) where
     }
       where
         no-if : (i : ℕ) (e : Expr) (gs hs : List Frame) → thread i ∷ gs ≡ if e ∷ hs → ⊥
-        no-if i e gs hs q = let z : ◌≡◌ {A = ℕ} 0 1 = cc in omega arith
+        no-if i e gs hs q = cc
 
     module _ (s : Stretch) (inside : Survey slab (p + 1) s) where
       ends_at : (w : ScriptIn slab) → (r : List Frame) × (drop s.end (script_frames w.script) ≡ thread_end ∷ r) × T (outer_first r)
@@ -146,7 +106,7 @@ module _ (slab : List ℕ) (p : ℕ) where
           (a.2, (inside w.kind w.levels fs w.holds a.1 (thread_end ∷ a.2) (ap (λ (n : ℕ). drop n fs) (add-one p) ∙ drop_next p fs a.3) tt).1, a.4)
 
       pub right_end : Right slab s.end (plain_step End)
-      right_end = simple thread_end (λ e q. let z : ◌≡◌ {A = ℕ} 0 1 = cc in omega arith) (λ w. let a = ends_at w in (a.0, a.1, refl))
+      right_end = simple thread_end (λ e q. cc) (λ w. let a = ends_at w in (a.0, a.1, refl))
 
       pub end_outside : (next : ℕ) → next ≡ place_past s.end → Outside slab next
       end_outside next e w =

@@ -50,8 +50,8 @@ reading_step k n m o p offset len = record {
 -- The step of a command that is no block, at place p; a frame that is no such command counts as a skip.
 abbrev pub simple_step : ℕ → Coded → Step
 simple_step p (CodedHeader h) = plain_step Skip
-simple_step p (CodedTrack i l z) = plain_step Skip
-simple_step p (CodedChannel i l z) = plain_step Skip
+simple_step p (CodedTrack s) = plain_step Skip
+simple_step p (CodedChannel s) = plain_step Skip
 simple_step p (CodedThread i) = plain_step Skip
 simple_step p CodedThreadEnd = plain_step Skip
 simple_step p CodedSkip = plain_step Skip
@@ -126,7 +126,7 @@ outer (with m e) = false
 outer end_with = false
 outer (last m) = true
 
--- The first of these frames, if there is one, does.
+-- Whether the first of these frames, if there is one, stands outside of threads or begins one.
 abbrev pub outer_first : List Frame → Bool
 outer_first [] = true
 outer_first (f ∷ fs) = outer f
@@ -154,7 +154,7 @@ is_thread (with m e) = false
 is_thread end_with = false
 is_thread (last m) = false
 
--- The first of these frames does.
+-- Whether the first of these frames begins a thread.
 abbrev pub thread_first : List Frame → Bool
 thread_first [] = false
 thread_first (f ∷ fs) = is_thread f

@@ -6,8 +6,9 @@ use crate::table::{Kind, Step};
 use script::DEPTH;
 
 // What a walk over a script's frames has met when it comes to a place: how many threads began and ended, and where the blocks
-// began that are still open, `depth` of them, outermost first.
-#[derive(Clone, Copy)]
+// began that are still open, `depth` of them, outermost first: an array and a depth, in fixed memory, as the model stacks them. Reading a script
+// stacks blocks so too, and asks other things of them.
+#[derive(Clone, Copy, Default)]
 pub struct Around {
     pub begun: u16,
     pub ended: u16,
@@ -16,34 +17,23 @@ pub struct Around {
 }
 
 impl Around {
-    // Before the first frame.
+    // Before the first frame. The default, of which its derive tells field by field, as one value: a walk in steps needs that.
     fn start() -> Around
         ensures { result ≡ no_around }
     {
-        Around {
-            begun: 0,
-            ended: 0,
-            openers: [0; DEPTH],
-            depth: 0,
-        }
+        Around::default()
     }
 
     // Into a block whose first frame stands at a place; no valid script has more of them open than there is room for.
-    fn enter(self, place: u16) -> Around
+    fn enter(mut self, place: u16) -> Around
         ensures { result ≡ entered place self }
     {
-        let depth = self.depth as usize;
+        let depth = usize::from(self.depth);
         if depth < DEPTH {
-            let mut openers = self.openers;
-            openers[depth] = place;
-            Around {
-                openers,
-                depth: self.depth + 1,
-                ..self
-            }
-        } else {
-            self
+            self.openers[depth] = place;
+            self.depth += 1;
         }
+        self
     }
 
     // Out of the innermost block.
@@ -84,10 +74,10 @@ pub fn walk_to(table: &[Step], place: u16) -> Around
     ensures met { Walks table.now place result }
     ensures deep { result.depth ≤ 16 }
 {
-    let end = (place as usize).min(table.len());
+    let end = table.len().min(usize::from(place));
     let mut walk = Around::start();
-    for p in 0..end {
-        walk = walk.over(p as u16, table[p].kind);
+    for (p, step) in table[..end].iter().enumerate() {
+        walk = walk.over(p as u16, step.kind);
     }
     walk
 }
@@ -95,36 +85,21 @@ pub fn walk_to(table: &[Step], place: u16) -> Around
 #[cfg(test)]
 mod tests {
     use super::*;
-
-    fn step(kind: Kind) -> Step {
-        Step {
-            kind,
-            number: 0,
-            mask: 0,
-            start: 0,
-            stop: 0,
-            other: 0,
-            fixed: false,
-            first: 0,
-            second: 0,
-            needed: 0,
-            assigned: 0,
-        }
-    }
+    use crate::table::plain;
 
     // A thread with a while around an if, between the header's frame and the last.
     fn table() -> [Step; 10] {
         [
-            step(Kind::Other),
-            step(Kind::Begin),
-            step(Kind::While),
-            step(Kind::If),
-            step(Kind::Skip),
-            step(Kind::Else),
-            step(Kind::EndIf),
-            step(Kind::EndWhile),
-            step(Kind::End),
-            step(Kind::Other),
+            plain(Kind::Other),
+            plain(Kind::Begin),
+            plain(Kind::While),
+            plain(Kind::If),
+            plain(Kind::Skip),
+            plain(Kind::Else),
+            plain(Kind::EndIf),
+            plain(Kind::EndWhile),
+            plain(Kind::End),
+            plain(Kind::Other),
         ]
     }
 

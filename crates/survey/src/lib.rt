@@ -2,26 +2,28 @@
 // The table of a script's steps is filled on the same way.
 #![tactic(auto)]
 
-ghost use Rattle.std.specs.Prelude.{◌≡◌, ◌+◌, ◌*◌, ◌<◌, ◌≤◌, max, true, false, ◌&&◌, [], ◌∷◌, length, bit_or, slice_set};
+ghost use Rattle.std.specs.Prelude.{◌≡◌, ◌+◌, ◌*◌, ◌<◌, ◌≤◌, true};
 ghost use Rattle.codec.specs.Expressions.{decode};
-ghost use Rattle.codec.specs.Operations.{op_of};
 ghost use Rattle.model.specs.Stretches.{is_literal_one};
 ghost use Rattle.survey.specs.Bits.{bit as bit_of};
-ghost use Rattle.survey.specs.Filling.{BeginsThread, closing_step, Filled, idle_turns, if_step, Outside, place_past, plain_step, reading_step, simple_step};
-ghost use Rattle.survey.specs.Stretches.{Measures, Survey};
+ghost use Rattle.survey.specs.Filling.{BeginsThread, Filled, Outside, simple_step};
+ghost use Rattle.survey.specs.Stretches.{assigning, both_ways, followed, held, Measures, no_command, repeated, Survey};
 ghost use Rattle.survey.specs.Table.{Tabulates};
 
 pub use crate::around::{Around, walk_to};
+use crate::reading::Reading;
 pub use crate::table::{Kind, Step};
-use crate::table::{plain, put_step, reading};
+use crate::table::{past, plain, put_step};
 use codec::expressions::{Op, first_op};
 use codec::frames::Frame;
 use script::{FRAMES, frame_at};
 
 mod around;
+mod reading;
 mod table;
 
-// A stretch up to the frame that ends it, which stands at `end`. Nothing reads the duration of one that takes no fixed time.
+// A stretch up to the frame that ends it, which stands at `end`. Whether it takes a fixed time and its duration are both promised of
+// every stretch: so they are a yes or no and a number, and no Option.
 #[derive(Clone, Copy)]
 pub struct Stretch {
     pub fixed: bool,
@@ -31,193 +33,89 @@ pub struct Stretch {
     pub end: u16,
 }
 
-// The place behind another, in a script.
-fn past(place: u16) -> u16
-    ensures within { place < 512 → result ≡ place + 1 }
-    ensures over { 512 ≤ place → result ≡ place }
-    ensures place { result ≡ place_past place }
-{
-    if place < FRAMES { place + 1 } else { place }
+impl Stretch {
+    // No command, at a place.
+    fn none(at: u16) -> Stretch
+        ensures { result ≡ no_command at }
+    {
+        Stretch {
+            fixed: true,
+            duration: 0,
+            needed: 0,
+            assigned: 0,
+            end: at,
+        }
+    }
+
+    // No turn, at a place, but a variable that is assigned.
+    fn assigning(variable: u8, at: u16) -> Stretch
+        ensures { result ≡ assigning variable at }
+    {
+        Stretch {
+            assigned: bit(variable),
+            ..Stretch::none(at)
+        }
+    }
+
+    // The two ways of an if as one, which lasts as long as the longer way.
+    fn beside(self, second: Stretch) -> Stretch
+        ensures { result ≡ both_ways self second }
+    {
+        Stretch {
+            fixed: self.fixed && second.fixed,
+            duration: self.duration.max(second.duration),
+            needed: self.needed | second.needed,
+            assigned: self.assigned | second.assigned,
+            end: second.end,
+        }
+    }
+
+    // The body of a with, under locks whose condition is literal one or not.
+    fn held(self, locks: u16, one: bool) -> Stretch
+        ensures { result ≡ held locks one self }
+    {
+        Stretch {
+            fixed: one && self.fixed,
+            needed: locks | self.needed,
+            ..self
+        }
+    }
+
+    // So many turns with this, and what follows.
+    fn then(self, turns: u32, next: Stretch) -> Stretch
+        requires { self.duration + next.duration + turns < 4294967296 }
+        ensures { result ≡ followed self turns next }
+    {
+        Stretch {
+            duration: self.duration + next.duration + turns,
+            ..self.beside(next)
+        }
+    }
+
+    // A while with this as its body, and what follows.
+    fn repeated(self, next: Stretch) -> Stretch
+        ensures { result ≡ repeated self next }
+    {
+        Stretch {
+            fixed: false,
+            duration: 0,
+            ..self.beside(next)
+        }
+    }
 }
 
 // A variable's bit in a mask.
 fn bit(variable: u8) -> u64
     ensures { result ≡ bit_of variable }
 {
-    if variable < 64 { 1u64 << variable } else { 0 }
-}
-
-// Whether an operation is the constant one.
-fn is_one(op: Op) -> bool
-    ensures { result ≡ is_literal_one (op_of op ∷ []) }
-{
-    match op {
-        Op::Constant(n) => n == 1,
-        Op::Variable(_) | Op::Sample(_) | Op::Held(_) | Op::Two(_) | Op::One(_) => false,
-    }
+    1u64.checked_shl(u32::from(variable)).unwrap_or(0)
 }
 
 // Whether an expression is the constant one and nothing else.
 fn literal_one(code: &[u8]) -> bool
     ensures { (decode 0 code.now).whole ≡ true → result ≡ is_literal_one (decode 0 code.now).ops }
 {
-    let Some((op, rest)) = first_op(code) else {
-        return false;
-    };
-    is_one(op) & rest.is_empty()
-}
-
-// No command, at a place.
-fn nothing(at: u16) -> Stretch
-    ensures { result ≡ record { fixed = true; duration = 0; needed = 0; assigned = 0; end = at } }
-{
-    Stretch {
-        fixed: true,
-        duration: 0,
-        needed: 0,
-        assigned: 0,
-        end: at,
-    }
-}
-
-// A command of one turn that assigns these variables, and what follows it.
-fn command(assigned: u64, next: Stretch) -> Stretch
-    requires { next.duration ≤ 2048 }
-    ensures { result ≡ record { fixed = next.fixed; duration = next.duration + 1; needed = next.needed; assigned = bit_or assigned next.assigned; end = next.end } }
-{
-    Stretch {
-        duration: next.duration + 1,
-        assigned: assigned | next.assigned,
-        ..next
-    }
-}
-
-// An if by its two ways, and what follows it.
-fn branch(first: Stretch, second: Stretch, next: Stretch) -> Stretch
-    requires first { first.duration ≤ 2048 }
-    requires second { second.duration ≤ 2048 }
-    requires next { next.duration ≤ 2048 }
-    ensures { result ≡ record { fixed = (first.fixed && second.fixed) && next.fixed; duration = max first.duration second.duration + next.duration + 2; needed = bit_or (bit_or first.needed second.needed) next.needed; assigned = bit_or (bit_or first.assigned second.assigned) next.assigned; end = next.end } }
-{
-    Stretch {
-        fixed: first.fixed & second.fixed & next.fixed,
-        duration: first.duration.max(second.duration) + next.duration + 2,
-        needed: first.needed | second.needed | next.needed,
-        assigned: first.assigned | second.assigned | next.assigned,
-        end: next.end,
-    }
-}
-
-// A while by its body, and what follows it.
-fn repeat(body: Stretch, next: Stretch) -> Stretch
-    ensures { result ≡ record { fixed = false; duration = 0; needed = bit_or body.needed next.needed; assigned = bit_or body.assigned next.assigned; end = next.end } }
-{
-    Stretch {
-        fixed: false,
-        duration: 0,
-        needed: body.needed | next.needed,
-        assigned: body.assigned | next.assigned,
-        end: next.end,
-    }
-}
-
-// A with by its locks, whether it is of literal one, its body, and what follows it.
-fn hold(locks: u16, one: bool, body: Stretch, next: Stretch) -> Stretch
-    requires body { body.duration ≤ 2048 }
-    requires next { next.duration ≤ 2048 }
-    ensures { result ≡ record { fixed = (one && body.fixed) && next.fixed; duration = body.duration + next.duration + 2; needed = bit_or (bit_or locks body.needed) next.needed; assigned = bit_or body.assigned next.assigned; end = next.end } }
-{
-    Stretch {
-        fixed: one & body.fixed & next.fixed,
-        duration: body.duration + next.duration + 2,
-        needed: locks | body.needed | next.needed,
-        assigned: body.assigned | next.assigned,
-        end: next.end,
-    }
-}
-
-// The idle turns at the end of a way: how much longer the other one lasts, where both take a fixed time.
-fn idle(fixed: bool, own: u32, other: u32) -> u16
-    requires { other ≤ 2048 }
-    ensures { result ≡ idle_turns fixed own other }
-{
-    if fixed & (own < other) {
-        (other - own) as u16
-    } else {
-        0
-    }
-}
-
-// The step of an if at a place, from its two ways.
-fn choice(at: u16, condition: &[u8], first: Stretch, second: Stretch) -> Step
-    requires at { at < 512 }
-    requires first { first.duration ≤ 2048 }
-    requires second { second.duration ≤ 2048 }
-    ensures { result ≡ if_step at (length condition.now) first second }
-{
-    let fixed = first.fixed & second.fixed;
-    Step {
-        other: past(first.end),
-        fixed,
-        first: idle(fixed, first.duration, second.duration),
-        second: idle(fixed, second.duration, first.duration),
-        needed: first.needed | second.needed,
-        assigned: first.assigned | second.assigned,
-        ..reading(Kind::If, at, 1, condition)
-    }
-}
-
-// Writes the steps of an if, of its else and of its end.
-fn put_choice(table: &mut [Step], at: u16, condition: &[u8], first: Stretch, second: Stretch)
-    requires at { at < 512 }
-    requires first { first.duration ≤ 2048 }
-    requires second { second.duration ≤ 2048 }
-    ensures { table.new ≡ slice_set (slice_set (slice_set table.old at (if_step at (length condition.now) first second)) first.end (closing_step Kind.Else (place_past second.end))) second.end (plain_step Kind.EndIf) }
-{
-    put_step(table, at, choice(at, condition, first, second));
-    let other = past(second.end);
-    put_step(
-        table,
-        first.end,
-        Step {
-            other,
-            ..plain(Kind::Else)
-        },
-    );
-    put_step(table, second.end, plain(Kind::EndIf));
-}
-
-// Writes the steps of a while and of its end.
-fn put_loop(table: &mut [Step], at: u16, condition: &[u8], end: u16)
-    requires { at < 512 }
-    ensures { table.new ≡ slice_set (slice_set table.old at (reading_step Kind.While 0 0 (place_past end) at 1 (length condition.now))) end (plain_step Kind.EndWhile) }
-{
-    let other = past(end);
-    put_step(
-        table,
-        at,
-        Step {
-            other,
-            ..reading(Kind::While, at, 1, condition)
-        },
-    );
-    put_step(table, end, plain(Kind::EndWhile));
-}
-
-// Writes the steps of a with and of its end.
-fn put_hold(table: &mut [Step], at: u16, mask: u16, condition: &[u8], end: u16)
-    requires { at < 512 }
-    ensures { table.new ≡ slice_set (slice_set table.old at (reading_step Kind.With 0 mask 0 at 3 (length condition.now))) end (plain_step Kind.EndWith) }
-{
-    put_step(
-        table,
-        at,
-        Step {
-            mask,
-            ..reading(Kind::With, at, 3, condition)
-        },
-    );
-    put_step(table, end, plain(Kind::EndWith));
+    matches!(first_op(code), Some((Op::Constant(1), [])))
 }
 
 // The step of a command that is no block, from its frame.
@@ -228,17 +126,17 @@ fn simple(at: u16, frame: Frame<'_>) -> Step
     match frame {
         Frame::Assign {
             variable,
-            expression,
+            expression: code,
         } => Step {
             number: variable,
-            ..reading(Kind::Assign, at, 2, expression)
+            ..Reading { at, code }.step(Kind::Assign, 2)
         },
         Frame::Put {
             channel,
-            expression,
+            expression: code,
         } => Step {
             number: channel,
-            ..reading(Kind::Put, at, 2, expression)
+            ..Reading { at, code }.step(Kind::Put, 2)
         },
         _ => plain(Kind::Skip),
     }
@@ -255,35 +153,40 @@ fn survey_from(slab: &[u8], at: u16, table: &mut [Step]) -> Stretch
     ensures steps { Filled slab.now at result.end table.old table.new }
 {
     let Some(frame) = frame_at(slab, at) else {
-        return nothing(at);
+        return Stretch::none(at);
     };
     match frame {
         Frame::Skip | Frame::Put { .. } => {
             put_step(table, at, simple(at, frame));
-            command(0, survey_from(slab, past(at), table))
+            Stretch::none(at).then(1, survey_from(slab, past(at), table))
         }
         Frame::Assign { variable, .. } => {
             put_step(table, at, simple(at, frame));
-            command(bit(variable), survey_from(slab, past(at), table))
+            let own = Stretch::assigning(variable, at);
+            own.then(1, survey_from(slab, past(at), table))
         }
-        Frame::If { condition } => {
+        Frame::If { condition: code } => {
             let first = survey_from(slab, past(at), table);
             let second = survey_from(slab, past(first.end), table);
-            put_choice(table, at, condition, first, second);
-            branch(first, second, survey_from(slab, past(second.end), table))
+            Reading { at, code }.put_choice(table, first, second);
+            let both = first.beside(second);
+            both.then(2, survey_from(slab, past(second.end), table))
         }
-        Frame::While { condition } => {
+        Frame::While { condition: code } => {
             let body = survey_from(slab, past(at), table);
-            put_loop(table, at, condition, body.end);
-            repeat(body, survey_from(slab, past(body.end), table))
+            Reading { at, code }.put_loop(table, body.end);
+            body.repeated(survey_from(slab, past(body.end), table))
         }
-        Frame::With { locks, condition } => {
+        Frame::With {
+            locks,
+            condition: code,
+        } => {
             let body = survey_from(slab, past(at), table);
-            put_hold(table, at, locks, condition, body.end);
-            let next = survey_from(slab, past(body.end), table);
-            hold(locks, literal_one(condition), body, next)
+            Reading { at, code }.put_hold(table, locks, body.end);
+            let held = body.held(locks, literal_one(code));
+            held.then(2, survey_from(slab, past(body.end), table))
         }
-        _ => nothing(at),
+        _ => Stretch::none(at),
     }
 }
 
@@ -291,13 +194,7 @@ fn survey_from(slab: &[u8], at: u16, table: &mut [Step]) -> Stretch
 fn begins_thread(slab: &[u8], place: u16) -> bool
     ensures { BeginsThread slab.now place result }
 {
-    let Some(frame) = frame_at(slab, place) else {
-        return false;
-    };
-    match frame {
-        Frame::Thread { .. } => true,
-        _ => false,
-    }
+    matches!(frame_at(slab, place), Some(Frame::Thread { .. }))
 }
 
 // The steps of the thread that begins at a place, or of the one frame there that no thread has; the place behind them.
@@ -323,6 +220,7 @@ fn tabulate_from(slab: &[u8], place: u16, table: &mut [Step]) -> u16
 pub fn tabulate(slab: &[u8], table: &mut [Step])
     ensures { Tabulates slab.now table.new }
 {
+    // A turn goes past a whole thread, so there is no range of places to go through.
     let mut place = 0;
     while place < FRAMES {
         place = tabulate_from(slab, place, table);
@@ -334,13 +232,14 @@ pub fn stretch_at(slab: &[u8], place: u16) -> Stretch
     ensures { Survey slab.now place result }
 {
     if place > FRAMES {
-        return nothing(place);
+        return Stretch::none(place);
     }
     // No table is asked for, so none of the steps is kept.
     survey_from(slab, place, &mut [])
 }
 
-// Whether that stretch takes a fixed time, and how long it lasts: one measuring answers both.
+// Whether that stretch takes a fixed time, and how long it lasts: one measuring answers both. The pair is no Option, since both are
+// promised of every stretch.
 pub fn measure(slab: &[u8], place: u16) -> (bool, u32)
     ensures { Measures slab.now place result }
 {
@@ -354,7 +253,7 @@ mod tests {
     use lattice::TwoPoint;
     use script::{SLAB, read};
 
-    // A with of literal one around an if with ways of 2 and 1 turns, then a while, then a skip; slots 4 to 13 are its commands.
+    // A with of literal one around an if with ways of 2 and 1 turns, then a while, then a skip; slots 4 to 17 are its commands.
     const SCRIPT: &[u8] = b"0101010102010103\n\
 0200000000010004\n\
 0300000000000008\n\

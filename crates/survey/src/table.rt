@@ -1,17 +1,15 @@
 // A script as a table of steps: a frame each, with all that a turn at it needs to know.
-ghost use Rattle.std.specs.Prelude.{◌≡◌, ◌<◌, ◌≤◌, length, slice_set};
-ghost use Rattle.survey.specs.Filling.{plain_step, reading_step};
+ghost use Rattle.std.specs.Prelude.{◌≡◌, slice_set};
+ghost use Rattle.survey.specs.Filling.{place_past, plain_step};
 ghost use Rattle.survey.specs.Table.{nil_step};
 
-use script::SLOT;
+use script::FRAMES;
 
-// No expression has more bytes.
-const LONGEST: usize = 48;
-
-// The kinds of frames: those that a thread may stand at, the one that begins a thread, and every other. Each but the last has the
+// The kinds of frames: those that a thread may stand at, the one that begins a thread, and every other. Each but Other has the
 // number that it has in the format.
-#[derive(Clone, Copy)]
+#[derive(Clone, Copy, Debug, Default, PartialEq, Eq)]
 pub enum Kind {
+    #[default]
     Other = 0x00,
     Begin = 0x20,
     End = 0x21,
@@ -30,7 +28,10 @@ pub enum Kind {
 // A frame as the turns need it. Its expression is the bytes from `start` to `stop` of the script slab; `other` is the place past
 // the else or the end of its block; masks are 0 where the kind has none. For an if: whether both ways take a fixed
 // time, the idle turns at the end of the first and of the second, the locks that either names, and the variables that either assigns.
-#[derive(Clone, Copy)]
+// The idle turns are numbers beside the flag, and no Option: a closing turn reads them of any if, 0 where it takes no fixed time.
+// It is one flat record for all kinds: a table is lent memory, with records of one size, and a turn reads a field without asking for
+// the kind. `start`, `stop` and `other` are places and no slices, since the slab is lent to each call, and a step may borrow nothing.
+#[derive(Clone, Copy, Default)]
 pub struct Step {
     pub kind: Kind,
     pub number: u8,
@@ -50,7 +51,7 @@ impl Step {
     pub fn none() -> Step
         ensures { result ≡ nil_step }
     {
-        plain(Kind::Other)
+        Step::default()
     }
 }
 
@@ -60,39 +61,23 @@ pub(crate) fn plain(kind: Kind) -> Step
 {
     Step {
         kind,
-        number: 0,
-        mask: 0,
-        start: 0,
-        stop: 0,
-        other: 0,
-        fixed: false,
-        first: 0,
-        second: 0,
-        needed: 0,
-        assigned: 0,
+        ..Step::default()
     }
 }
 
-// A step with an expression, which stands so far into the slot at a place.
-pub(crate) fn reading(kind: Kind, place: u16, offset: u16, expression: &[u8]) -> Step
-    requires place { place < 512 }
-    requires offset { offset ≤ 3 }
-    ensures { result ≡ reading_step kind 0 0 0 place offset (length expression.now) }
-{
-    let start = place * SLOT as u16 + offset;
-    Step {
-        start,
-        stop: start + expression.len().min(LONGEST) as u16,
-        ..plain(kind)
-    }
-}
-
-// Writes a step at its place, where the table has that place.
+// Writes a step at its place, where the table has that place. With `get_mut` it does not prove: after it a proof knows no element of the slice.
 pub(crate) fn put_step(table: &mut [Step], place: u16, step: Step)
     ensures { table.new ≡ slice_set table.old place step }
 {
-    let at = place as usize;
+    let at = usize::from(place);
     if at < table.len() {
         table[at] = step;
     }
+}
+
+// The place behind another, in a script.
+pub(crate) fn past(place: u16) -> u16
+    ensures { result ≡ place_past place }
+{
+    if place < FRAMES { place + 1 } else { place }
 }

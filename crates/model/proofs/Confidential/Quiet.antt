@@ -1,11 +1,10 @@
 -- A thread inside a branch whose level is not seen: what it is at takes a fixed time, and it lasts as long whichever way was taken.
-use Rattle.std.proofs.Common.{◌≡◌, ℕ, suc, ◌+◌, ◌<◌, Bool, true, false, ◌&&◌, ◌||◌, T, List, [], ◌∷◌, get_or, pos, negsuc, refl, ◌∙◌, suc-le-suc, zero-le, arith}
+use Rattle.std.proofs.Common.{◌≡◌, ℕ, suc, ◌+◌, ◌<◌, Bool, true, false, ◌&&◌, ◌||◌, T, List, ◌∷◌, get_or, refl, ◌∙◌, rules}
 use lib.Bits.{bit_or}
 use Rattle.lattice.specs.Levels.{Levels}
 use Rattle.codec.specs.Expressions.{Expr}
 use Rattle.script.specs.Code.{Code}
 use Rattle.model.specs.Stretches.{assigns, fixed_time, duration, needs, is_literal_one}
-use Rattle.codec.specs.Expressions.Op.{constant, variable, sample, held, binary, unary}
 use Rattle.script.specs.Code.Code.{done, skip, assign, put, branch, loop, lock}
 use Rattle.model.specs.Values.{blank, joined}
 use Rattle.model.specs.Threads.{Open, Pace, guard_of, context, owned, reserved}
@@ -112,16 +111,7 @@ pub data Quiet (v : View) (y : Way) (l : ℕ) (w : Bool) : Code → Pace → Lis
   waits_last : {j n : ℕ} → n ≡ suc j → Quiet v y l w done (idling j) (base y l w) n
 
 literal_level : (k : Levels) (f g : ℕ → ℕ) (e : Expr) → T (is_literal_one e) → joined k f g e 0 ≡ 0
-literal_level k f g [] h = absurd h
-literal_level k f g (constant (pos n) ∷ []) h = refl
-literal_level k f g (constant (negsuc n) ∷ []) h = absurd h
-literal_level k f g (constant (pos n) ∷ (o ∷ e)) h = absurd h
-literal_level k f g (constant (negsuc n) ∷ (o ∷ e)) h = absurd h
-literal_level k f g (variable x ∷ e) h = absurd h
-literal_level k f g (sample x ∷ e) h = absurd h
-literal_level k f g (held x ∷ e) h = absurd h
-literal_level k f g (binary b ∷ e) h = absurd h
-literal_level k f g (unary u ∷ e) h = absurd h
+literal_level k f g e h = search rules
 
 not_assigned : {y : Way} (x : ℕ) (c d : Code) → (T (assigned x y.p y.q) → ⊥) → Within y c → Within y d → assigned x c d ≡ false
 not_assigned x c d f hc hd = go (assigns x c) (assigns x d) (λ t. f (hc.fewer x t)) (λ t. f (hd.fewer x t))
@@ -132,14 +122,10 @@ not_assigned x c d f hc hd = go (assigns x c) (assigns x d) (λ t. f (hc.fewer x
 
 module _ (v : View) {y : Way} {l : ℕ} {w : Bool} where
   pub above_pos : {os : List Open} {n : ℕ} → Above v y l w os n → 0 < n
-  above_pos at_base = suc-le-suc zero-le
-  above_pos (in_br a h x y z) = suc-le-suc zero-le
-  above_pos (in_lk a h x) = suc-le-suc zero-le
+  above_pos a = search rules
 
   pub quiet_pos : {c : Code} {r : Pace} {os : List Open} {n : ℕ} → Quiet v y l w c r os n → 0 < n
-  quiet_pos (runs a h e) = let z = above_pos a in omega arith
-  quiet_pos (waits a h x y z e) = omega arith
-  quiet_pos (waits_last e) = omega arith
+  quiet_pos a = search rules
 
   pub above_context : {os : List Open} {n : ℕ} → Hid v l → Above v y l w os n → Hid v (context os)
   above_context hl at_base = hl
@@ -172,9 +158,7 @@ module _ (v : View) {y : Way} {l : ℕ} {w : Bool} where
   quiet_above (waits_last e) = (_, at_base)
 
   done_ready : (s : State) (i : ℕ) {os : List Open} {n : ℕ} → Above v y l w os n → status_at v.k v.sc s i done running os ≡ ready
-  done_ready s i at_base = refl
-  done_ready s i (in_br a h x y z) = refl
-  done_ready s i (in_lk a h x) = refl
+  done_ready s i a = search rules
 
   run_ready : (s : State) (i : ℕ) (c : Code) {os : List Open} {n : ℕ} → Hid v l → Above v y l w os n → Within y c → status_at v.k v.sc s i c running os ≡ ready
   run_ready s i done hl a h = done_ready s i a

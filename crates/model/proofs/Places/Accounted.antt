@@ -1,5 +1,5 @@
 -- What memory says of a thread fits a script exactly if it is the account of a thread of the model, and then of one only.
-use Rattle.std.proofs.Common.{◌≡◌, ℕ, suc, ◌<◌, Bool, true, false, ◌&&◌, T, eqb, List, [], ◌∷◌, length, get_or, drop, sym, refl, ap, ◌∙◌, subst, arith, eqb→eq}
+use Rattle.std.proofs.Common.{◌≡◌, ℕ, suc, ◌<◌, Bool, ◌&&◌, T, eqb, List, [], ◌∷◌, length, get_or, drop, sym, refl, ap, ◌∙◌, subst, eqb→eq, rules}
 use lib.Dec.{eqb_refl}
 use lib.ListN.{get_or-map}
 use Rattle.std.proofs.ByRecursion.{All-get_or}
@@ -25,14 +25,11 @@ use Rattle.model.proofs.Places.Levelling.{contexts_fit, levelled, idles_fit, fit
 -- One thread
 
 other_way : {A : Type 0} {f g : List Frame} → else ∷ f ≡ end_if ∷ g → A
-other_way e = let z : ◌≡◌ {A = ℕ} 0 1 = cc in absurd (omega arith)
+other_way e = absurd cc
 
 -- Which way was taken shows in the frame that ends it.
 same_way : (l m : ℕ) (v w : Bool) (a b n c d o : Code) (os xs : List Open) (r r' : List Frame) → flatten_inside (in_branch l v a b n ∷ os) r ≡ flatten_inside (in_branch m w c d o ∷ xs) r' → v ≡ w
-same_way l m true true a b n c d o os xs r r' e = refl
-same_way l m true false a b n c d o os xs r r' e = other_way e
-same_way l m false true a b n c d o os xs r r' e = other_way (sym e)
-same_way l m false false a b n c d o os xs r r' e = refl
+same_way l m v w a b n c d o os xs r r' e = search rules
 
 module _ (fs : List Frame) where
   -- What a place's frames are the beginning of.
@@ -79,17 +76,17 @@ module _ (fs : List Frame) where
       let en : n ≡ n' = cc in
       (λ j. in_lock (em j) (en j) ∷ t.0 j, t.1)
   one_inside (p ∷ ps) (in_branch l v a b n ∷ os) (in_loop x' b' n' ∷ xs) r r' e o u c =
-      let same : branch o.0.0 a b n ≡ loop x' b' n' = (one_opening p _ _ os xs r r' o.0.1 u.0).0 in let z : ◌≡◌ {A = ℕ} 0 1 = cc in absurd (omega arith)
+      let same : branch o.0.0 a b n ≡ loop x' b' n' = (one_opening p _ _ os xs r r' o.0.1 u.0).0 in absurd cc
   one_inside (p ∷ ps) (in_branch l v a b n ∷ os) (in_lock m' n' ∷ xs) r r' e o u c =
-      let same : branch o.0.0 a b n ≡ lock m' u.0.0 u.0.1 n' = (one_opening p _ _ os xs r r' o.0.1 u.0.2).0 in let z : ◌≡◌ {A = ℕ} 0 1 = cc in absurd (omega arith)
+      let same : branch o.0.0 a b n ≡ lock m' u.0.0 u.0.1 n' = (one_opening p _ _ os xs r r' o.0.1 u.0.2).0 in absurd cc
   one_inside (p ∷ ps) (in_loop x b n ∷ os) (in_branch m w a' b' n' ∷ xs) r r' e o u c =
-      let same : loop x b n ≡ branch u.0.0 a' b' n' = (one_opening p _ _ os xs r r' o.0 u.0.1).0 in let z : ◌≡◌ {A = ℕ} 0 1 = cc in absurd (omega arith)
+      let same : loop x b n ≡ branch u.0.0 a' b' n' = (one_opening p _ _ os xs r r' o.0 u.0.1).0 in absurd cc
   one_inside (p ∷ ps) (in_loop x b n ∷ os) (in_lock m' n' ∷ xs) r r' e o u c =
-      let same : loop x b n ≡ lock m' u.0.0 u.0.1 n' = (one_opening p _ _ os xs r r' o.0 u.0.2).0 in let z : ◌≡◌ {A = ℕ} 0 1 = cc in absurd (omega arith)
+      let same : loop x b n ≡ lock m' u.0.0 u.0.1 n' = (one_opening p _ _ os xs r r' o.0 u.0.2).0 in absurd cc
   one_inside (p ∷ ps) (in_lock m n ∷ os) (in_branch l w a' b' n' ∷ xs) r r' e o u c =
-      let same : lock m o.0.0 o.0.1 n ≡ branch u.0.0 a' b' n' = (one_opening p _ _ os xs r r' o.0.2 u.0.1).0 in let z : ◌≡◌ {A = ℕ} 0 1 = cc in absurd (omega arith)
+      let same : lock m o.0.0 o.0.1 n ≡ branch u.0.0 a' b' n' = (one_opening p _ _ os xs r r' o.0.2 u.0.1).0 in absurd cc
   one_inside (p ∷ ps) (in_lock m n ∷ os) (in_loop x' b' n' ∷ xs) r r' e o u c =
-      let same : lock m o.0.0 o.0.1 n ≡ loop x' b' n' = (one_opening p _ _ os xs r r' o.0.2 u.0).0 in let z : ◌≡◌ {A = ℕ} 0 1 = cc in absurd (omega arith)
+      let same : lock m o.0.0 o.0.1 n ≡ loop x' b' n' = (one_opening p _ _ os xs r r' o.0.2 u.0).0 in absurd cc
 
 pub one_thread : (k : Levels) (fs r r' : List Frame) (a : Account) (t u : Thread) → Accounts k fs r a t → Accounts k fs r' a u → (t ≡ u) × (r ≡ r')
 one_thread k fs r r' a t u h g =

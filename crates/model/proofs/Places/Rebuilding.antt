@@ -1,9 +1,9 @@
 -- A spot that a walk meets in a thread is where a thread of the model stands.
-use Rattle.std.proofs.Common.{◌≡◌, ℕ, zero, suc, ◌+◌, ◌-◌, ◌<◌, ◌≤◌, true, false, ◌⊎◌, List, [], ◌∷◌, length, drop, sym, refl, ap, ◌∙◌, subst, inl, inr, arith}
+use Rattle.std.proofs.Common.{◌≡◌, ℕ, zero, suc, ◌+◌, ◌-◌, ◌<◌, ◌≤◌, true, false, ◌⊎◌, List, [], ◌∷◌, length, drop, sym, refl, ap, ◌∙◌, subst, inl, inr, arith, rules}
 use Rattle.script.specs.Code.{Code}
 use Rattle.script.specs.Code.Code.{done, skip, assign, put, branch, loop, lock}
 use Rattle.codec.specs.Frames.{Head, Frame}
-use Rattle.codec.specs.Frames.Frame.{header, track, channel, thread, thread_end, if, else, end_if, while, end_while, with, end_with, last}
+use Rattle.codec.specs.Frames.Frame.{thread_end}
 use Rattle.script.specs.Trees.{flatten, Valid}
 use Rattle.model.specs.Threads.{Open, at_code}
 use Rattle.model.specs.Threads.Open.{in_branch, in_loop, in_lock}
@@ -18,22 +18,7 @@ record Grows (v w : Walk) : Type 0 where
   ended : v.ended ≤ w.ended
 
 grows : (p : ℕ) (f : Frame) (w : Walk) → Grows w (stride p f w)
-grows p (header h) w = record { begun = omega arith; ended = omega arith }
-grows p (track i l z) w = record { begun = omega arith; ended = omega arith }
-grows p (channel i l z) w = record { begun = omega arith; ended = omega arith }
-grows p (thread i) w = record { begun = omega arith; ended = omega arith }
-grows p thread_end w = record { begun = omega arith; ended = omega arith }
-grows p Frame.skip w = record { begun = omega arith; ended = omega arith }
-grows p (Frame.assign x e) w = record { begun = omega arith; ended = omega arith }
-grows p (Frame.put h e) w = record { begun = omega arith; ended = omega arith }
-grows p (if e) w = record { begun = omega arith; ended = omega arith }
-grows p else w = record { begun = omega arith; ended = omega arith }
-grows p end_if w = record { begun = omega arith; ended = omega arith }
-grows p (while e) w = record { begun = omega arith; ended = omega arith }
-grows p end_while w = record { begun = omega arith; ended = omega arith }
-grows p (with m e) w = record { begun = omega arith; ended = omega arith }
-grows p end_with w = record { begun = omega arith; ended = omega arith }
-grows p (last m) w = record { begun = omega arith; ended = omega arith }
+grows p f w = search rules
 
 module _ (fs : List Frame) where
   grows_next : (p : ℕ) → Grows (around fs p) (around fs (suc p))

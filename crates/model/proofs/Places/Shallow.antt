@@ -1,5 +1,5 @@
 -- A walk over a valid script has at most 16 blocks open.
-use Rattle.std.proofs.Common.{ℕ, zero, suc, ◌≤◌, T, ltb, List, [], ◌∷◌, length, drop, arith, ltb→lt}
+use Rattle.std.proofs.Common.{ℕ, zero, suc, ◌≤◌, T, ltb, List, [], ◌∷◌, length, drop, arith, rules}
 use Rattle.std.specs.List.{AllByRecursion}
 use Rattle.lattice.specs.Levels.{Levels}
 use Rattle.script.specs.Code.{Code, Script}
@@ -73,22 +73,7 @@ less_length [] gs d l = (d, l)
 less_length (p ∷ ps) gs d l = (omega arith, l)
 
 fine_over : (p : ℕ) (f : Frame) (gs : List Frame) (w : Walk) → Fine w (f ∷ gs) → Fine (stride p f w) gs
-fine_over p (header h) gs w n = record { deep = n.deep; low = n.low }
-fine_over p (track i l z) gs w n = record { deep = n.deep; low = n.low }
-fine_over p (channel i l z) gs w n = record { deep = n.deep; low = n.low }
-fine_over p (thread i) gs w n = record { deep = n.deep; low = n.low }
-fine_over p thread_end gs w n = record { deep = n.deep; low = n.low }
-fine_over p Frame.skip gs w n = record { deep = n.deep; low = n.low }
-fine_over p (Frame.assign x e) gs w n = record { deep = n.deep; low = n.low }
-fine_over p (Frame.put h e) gs w n = record { deep = n.deep; low = n.low }
-fine_over p (if e) gs w n = record { deep = ltb→lt (length w.openers) 16 n.low.0; low = n.low.1 }
-fine_over p else gs w n = record { deep = n.deep; low = n.low }
-fine_over p end_if gs w n = let t = less_length w.openers gs n.deep n.low in record { deep = t.0; low = t.1 }
-fine_over p (while e) gs w n = record { deep = ltb→lt (length w.openers) 16 n.low.0; low = n.low.1 }
-fine_over p end_while gs w n = let t = less_length w.openers gs n.deep n.low in record { deep = t.0; low = t.1 }
-fine_over p (with m e) gs w n = record { deep = ltb→lt (length w.openers) 16 n.low.0; low = n.low.1 }
-fine_over p end_with gs w n = let t = less_length w.openers gs n.deep n.low in record { deep = t.0; low = t.1 }
-fine_over p (last m) gs w n = record { deep = n.deep; low = n.low }
+fine_over p f gs w n = search rules
 
 -- The frames at a place: the one there, and those from the next place on.
 drop_split : (p q : ℕ) (fs : List Frame) (w : Walk) → Fine w (drop p fs) → Fine (stride q (frame_at fs p) w) (drop (suc p) fs)

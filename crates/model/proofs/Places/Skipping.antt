@@ -28,9 +28,9 @@ skip_flatten (lock m e b c) d r = omega (arith, skip_flatten b (suc d) (end_with
 
 -- The frame at a place, and those behind it.
 pub drop_next : (p : ℕ) (fs : List Frame) {f : Frame} {gs : List Frame} → drop p fs ≡ f ∷ gs → drop (suc p) fs ≡ gs
-drop_next zero [] e = let z : ◌≡◌ {A = ℕ} 0 1 = cc in absurd (omega arith)
+drop_next zero [] e = absurd cc
 drop_next zero (g ∷ fs) e = cc
-drop_next (suc p) [] e = let z : ◌≡◌ {A = ℕ} 0 1 = cc in absurd (omega arith)
+drop_next (suc p) [] e = absurd cc
 drop_next (suc p) (g ∷ fs) e = drop_next p fs e
 
 -- The same place under another name.
@@ -64,7 +64,7 @@ past_lands p fs f x c r z e =
 
 -- The frame at a place, by its number.
 pub frame_here : (p : ℕ) (fs : List Frame) (d : Frame) {f : Frame} {gs : List Frame} → drop p fs ≡ f ∷ gs → (get_or fs p d ≡ f) × (p < length fs)
-frame_here zero [] d e = let z : ◌≡◌ {A = ℕ} 0 1 = cc in absurd (omega arith)
+frame_here zero [] d e = absurd cc
 frame_here zero (g ∷ fs) d e = (cc, omega arith)
-frame_here (suc p) [] d e = let z : ◌≡◌ {A = ℕ} 0 1 = cc in absurd (omega arith)
+frame_here (suc p) [] d e = absurd cc
 frame_here (suc p) (g ∷ fs) d e = let t = frame_here p fs d e in (t.0, omega (arith, t.1))

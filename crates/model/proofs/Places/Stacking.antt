@@ -1,7 +1,6 @@
 -- A walk's openers in an array, and how far its counts go.
-use Rattle.std.proofs.Common.{◌≡◌, ℕ, zero, suc, ◌-◌, ◌<◌, ◌≤◌, T, eqb, ◌≢◌, List, [], ◌∷◌, length, get_or, set, sym, refl, ap, ◌∙◌, arith, get_or-set_other, get_or-set_same}
+use Rattle.std.proofs.Common.{◌≡◌, ℕ, zero, suc, ◌-◌, ◌<◌, ◌≤◌, T, eqb, ◌≢◌, List, [], ◌∷◌, length, get_or, set, sym, refl, ap, ◌∙◌, arith, get_or-set_other, get_or-set_same, rules}
 use Rattle.codec.specs.Frames.{Frame}
-use Rattle.codec.specs.Frames.Frame.{header, track, channel, thread, thread_end, if, else, end_if, while, end_while, with, end_with, last}
 use Rattle.model.specs.Places.{later_openers}
 use Rattle.model.specs.Fitting.{Walk, stride, frame_at, around, stacked, same_places}
 use Rattle.model.proofs.Tests.{and_right}
@@ -52,22 +51,7 @@ record Adds (v w : Walk) : Type 0 where
   ended : w.ended ≤ suc v.ended
 
 adds : (p : ℕ) (f : Frame) (w : Walk) → Adds w (stride p f w)
-adds p (header h) w = record { begun = omega arith; ended = omega arith }
-adds p (track i l z) w = record { begun = omega arith; ended = omega arith }
-adds p (channel i l z) w = record { begun = omega arith; ended = omega arith }
-adds p (thread i) w = record { begun = omega arith; ended = omega arith }
-adds p thread_end w = record { begun = omega arith; ended = omega arith }
-adds p Frame.skip w = record { begun = omega arith; ended = omega arith }
-adds p (Frame.assign x e) w = record { begun = omega arith; ended = omega arith }
-adds p (Frame.put h e) w = record { begun = omega arith; ended = omega arith }
-adds p (if e) w = record { begun = omega arith; ended = omega arith }
-adds p else w = record { begun = omega arith; ended = omega arith }
-adds p end_if w = record { begun = omega arith; ended = omega arith }
-adds p (while e) w = record { begun = omega arith; ended = omega arith }
-adds p end_while w = record { begun = omega arith; ended = omega arith }
-adds p (with m e) w = record { begun = omega arith; ended = omega arith }
-adds p end_with w = record { begun = omega arith; ended = omega arith }
-adds p (last m) w = record { begun = omega arith; ended = omega arith }
+adds p f w = search rules
 
 pub counts : (fs : List Frame) (p : ℕ) → ((around fs p).begun ≤ p) × ((around fs p).ended ≤ p)
 unfolding around

@@ -1,5 +1,5 @@
 -- A script's frames have one tree.
-use Rattle.std.proofs.Common.{◌≡◌, ℕ, ◌+◌, Bool, true, false, T, List, [], ◌∷◌, drop, sym, refl, ap, ◌∙◌}
+use Rattle.std.proofs.Common.{◌≡◌, ℕ, ◌+◌, Bool, true, false, T, List, [], ◌∷◌, drop, sym, refl, ap, ◌∙◌, rules}
 use Rattle.script.specs.Code.{Code}
 use Rattle.script.specs.Code.Code.{done}
 use Rattle.model.specs.Threads.{Open}
@@ -37,23 +37,7 @@ Closed [] = ⊥
 Closed (f ∷ fs) = T (is_closing f)
 
 closed_code : (r : List Frame) → Closed r → (grown r).code ≡ done
-closed_code [] h = absurd h
-closed_code (header x ∷ fs) h = absurd h
-closed_code (track i l z ∷ fs) h = absurd h
-closed_code (channel i l z ∷ fs) h = absurd h
-closed_code (thread i ∷ fs) h = absurd h
-closed_code (thread_end ∷ fs) h = refl
-closed_code (Frame.skip ∷ fs) h = absurd h
-closed_code (Frame.assign x e ∷ fs) h = absurd h
-closed_code (Frame.put o e ∷ fs) h = absurd h
-closed_code (if e ∷ fs) h = absurd h
-closed_code (else ∷ fs) h = refl
-closed_code (end_if ∷ fs) h = refl
-closed_code (while e ∷ fs) h = absurd h
-closed_code (end_while ∷ fs) h = refl
-closed_code (with m e ∷ fs) h = absurd h
-closed_code (end_with ∷ fs) h = refl
-closed_code (last m ∷ fs) h = absurd h
+closed_code r h = search rules
 
 -- The code is what grows from its frames.
 code_of_frames : (c : Code) (r : List Frame) → Closed r → (grown (flatten c r)).code ≡ c

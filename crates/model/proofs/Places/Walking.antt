@@ -13,9 +13,9 @@ use Rattle.model.proofs.Places.Skipping.{size, drop_next, drop_flatten, frame_he
 
 -- The frames from a place on tell the place.
 drop_length : (p : ℕ) (fs : List Frame) {f : Frame} {gs : List Frame} → drop p fs ≡ f ∷ gs → p + suc (length gs) ≡ length fs
-drop_length zero [] e = let z : ◌≡◌ {A = ℕ} 0 1 = cc in absurd (omega arith)
+drop_length zero [] e = absurd cc
 drop_length zero (g ∷ fs) {f} {gs} e = let z : length (g ∷ fs) ≡ length (f ∷ gs) = ap length e in omega (arith, z)
-drop_length (suc p) [] e = let z : ◌≡◌ {A = ℕ} 0 1 = cc in absurd (omega arith)
+drop_length (suc p) [] e = absurd cc
 drop_length (suc p) (g ∷ fs) e = omega (arith, drop_length p fs e)
 
 pub one_place : (p q : ℕ) (fs : List Frame) {f : Frame} {gs : List Frame} → drop p fs ≡ f ∷ gs → drop q fs ≡ f ∷ gs → p ≡ q

@@ -1,5 +1,5 @@
 -- The machine agrees with the automaton, command by command.
-use Rattle.std.proofs.Common.{◌≡◌, ℕ, zero, suc, pred, ◌+◌, ◌<◌, Bool, true, false, cond, not, ◌&&◌, ◌||◌, T, eqb, ltb, List, [], ◌∷◌, map, length, get_or, set, replicate, pos, sym, refl, ap, ◌∙◌, subst, inl, inr, arith, eqb→eq, ltb→lt, nltb→le}
+use Rattle.std.proofs.Common.{◌≡◌, ℕ, zero, suc, pred, ◌+◌, ◌<◌, Bool, true, false, cond, not, ◌&&◌, ◌||◌, T, eqb, ltb, List, [], ◌∷◌, map, length, get_or, set, replicate, pos, sym, refl, ap, ◌∙◌, subst, inl, inr, arith, eqb→eq, ltb→lt, nltb→le, rules}
 use mathlib.Core.Option.{Option, none, some}
 use lib.Dec.{eqb_refl}
 use lib.ListN.{get_or-eq_default}
@@ -282,7 +282,7 @@ module _ (sc : Script) (s : State) (K : Kept sc.variables s.cells s.threads) (i 
 
         taken : (v : Bool) (q : Q) → ◌≡◌ {A = Option (Output × Q)} (cond v (some (ok, asked sc s i)) none) (some (ok, q)) → v ≡ true
         taken true q h = refl
-        taken false q h = let z : ◌≡◌ {A = ℕ} 0 1 = cc in absurd (omega arith)
+        taken false q h = absurd cc
 
         allowed : (next : Q) → react (asked sc s i) (at_sync m e) ≡ some (ok, next) → is_zero (value_of two_point sc s e) ≡ false → T (apart m (others i s.threads)) →
             chosen_status (not (is_open (level_of two_point sc s e))) (is_open (context os) && (is_zero (value_of two_point sc s e) || clash m (against i s.threads))) ≡ ready
@@ -315,17 +315,10 @@ module _ (sc : Script) (s : State) (K : Kept sc.variables s.cells s.threads) (i 
       old y = is_open (get_or s.cells y blank).level
 
       outer-facts : (po m lo : Bool) → lo ≡ po && not m → T (po && not lo) → (not m || not po ≡ false) × (lo ≡ false)
-      outer-facts true true lo f h = (refl, f)
-      outer-facts true false true f h = absurd h
-      outer-facts true false false f h = clear true tt (sym f)
-      outer-facts false m lo f h = absurd h
+      outer-facts po m lo f h = search rules
 
       inner-facts : (po m lo : Bool) → lo ≡ po && not m → po && not lo ≡ false → not m || not po ≡ true
-      inner-facts true true true f h = clear true tt f
-      inner-facts true true false f h = clear true tt h
-      inner-facts true false lo f h = refl
-      inner-facts false true lo f h = refl
-      inner-facts false false lo f h = refl
+      inner-facts po m lo f h = search rules
 
       asks : (b : Bool) → not (carries (asked sc s i) e) || not (is_open (context os)) ≡ b → not (carries (asked sc s i) e) || not (all_bottom (asked sc s i).w) ≡ b
       asks b f = ap (λ (v : Bool). not (carries (asked sc s i) e) || not v) bottoms ∙ f

@@ -1,18 +1,17 @@
 -- The automaton answers alike in states that are the same at the declared variables.
-use Rattle.std.proofs.Common.{◌≡◌, ℕ, suc, pred, ◌<◌, Bool, true, false, cond, not, ◌&&◌, ◌||◌, T, eqb, ltb, List, [], ◌∷◌, sym, refl, ap, ◌∙◌, subst, ap₂, ltb→lt}
+use Rattle.std.proofs.Common.{◌≡◌, ℕ, suc, pred, ◌<◌, Bool, true, false, cond, not, ◌&&◌, ◌||◌, T, eqb, ltb, List, [], ◌∷◌, refl, ap, ◌∙◌, subst, ap₂, ltb→lt, rules}
 use mathlib.Core.Option.{Option, none, some}
 use lib.Bits.{bit_or}
 use Rattle.codec.specs.Expressions.{Expr}
 use Rattle.script.specs.Code.{Code}
 use Rattle.codec.specs.Expressions.Op.{constant, variable, sample, held, binary, unary}
-use Rattle.model.specs.Automaton.{Q, Pool, Input, Output, apart, without, meets, stops, all_bottom, either_defines, either_needs, carries, with_w, with_V, entering, leaving, merged, react, extract, update}
+use Rattle.model.specs.Automaton.{Q, Pool, Input, Output, apart, without, meets, all_bottom, either_defines, either_needs, carries, with_w, with_V, entering, leaving, merged, react, extract, update}
 use Rattle.model.specs.Automaton.Input.{at_branch, at_merge, at_sync, at_skip, at_assign, at_output}
 use Rattle.model.specs.Automaton.Output.{ok, no, default}
 use Rattle.model.specs.Follows.{Same}
 use Rattle.model.specs.Together.{note, go_on, hears}
 use Rattle.model.proofs.Published.Names.{reads}
 use Rattle.model.proofs.Tests.{and_left, and_right}
-use Rattle.model.proofs.Published.Sound.{clear}
 
 abbrev pub fit : ℕ → Input → Bool
 fit n (at_branch m e pe pu) = reads n e
@@ -65,10 +64,7 @@ module _ (n : ℕ) where
   meets_alike va vb sa sb f g (unary u ∷ e) h = meets_alike va vb sa sb f g e h
 
   both_cond : (x y : Bool) → x ≡ y → (a b c d : Option (Output × Q)) → Both a b → Both c d → Both (cond x a c) (cond y b d)
-  both_cond true true e a b c d h g = h
-  both_cond true false e a b c d h g = clear true tt e
-  both_cond false true e a b c d h g = clear true tt (sym e)
-  both_cond false false e a b c d h g = g
+  both_cond x y e a b c d h g = search rules
 
   module _ (a b : Q) (l : Like a b) where
     pub carries_alike : (e : Expr) → T (reads n e) → carries a e ≡ carries b e
@@ -99,9 +95,7 @@ module _ (n : ℕ) where
     }
 
     merged_alike : (u : List Bool) (pe pu : Code) → Both (merged a u pe pu) (merged b u pe pu)
-    merged_alike [] pe pu = tt
-    merged_alike (false ∷ u) pe pu = (refl, like_w u)
-    merged_alike (true ∷ u) pe pu = both_cond (stops pe || stops pu) (stops pe || stops pu) refl none none (some (ok, leaving a (either_defines pe pu) (either_needs pe pu) u)) (some (ok, leaving b (either_defines pe pu) (either_needs pe pu) u)) tt (refl, like_leaving (either_defines pe pu) (either_needs pe pu) u)
+    merged_alike u pe pu = search rules
 
     pub react_alike : (x : Input) → T (fit n x) → Both (react a x) (react b x)
     react_alike (at_branch m e pe pu) h =

@@ -1,7 +1,6 @@
 -- The automaton's state, read off the machine's, when one thread moves.
-use Rattle.std.proofs.Common.{◌≡◌, ℕ, ◌<◌, Bool, true, false, cond, not, ◌&&◌, ◌||◌, T, eqb, List, [], ◌∷◌, length, get_or, set, pos, negsuc, sym, refl, ap, ◌∙◌, subst, inl, inr, eqb→eq}
+use Rattle.std.proofs.Common.{◌≡◌, ℕ, ◌<◌, Bool, true, false, cond, not, ◌&&◌, ◌||◌, T, eqb, List, length, get_or, set, sym, refl, ap, ◌∙◌, subst, inl, inr, rules}
 use lib.Bits.{bit_or, or_comm}
-use Rattle.codec.specs.Expressions.Op.{constant, variable, sample, held, binary, unary}
 use Rattle.model.specs.Levels.{is_open}
 use Rattle.codec.specs.Expressions.{Expr}
 use Rattle.script.specs.Code.{Code, Script}
@@ -72,14 +71,7 @@ module _ (sc : Script) (s : State) (i : ℕ) where
 
 -- The ways of a branch, as taken and not taken, define and need what the branch does.
 pub ways_define : (w : Bool) (p q : Code) (x : ℕ) → either_defines (cond w p q) (cond w q p) x ≡ assigns x p || assigns x q
-ways_define true p q x = refl
-ways_define false p q x = swap (assigns x q) (assigns x p)
-  where
-    swap : (a b : Bool) → a || b ≡ b || a
-    swap true true = refl
-    swap true false = refl
-    swap false true = refl
-    swap false false = refl
+ways_define w p q x = search rules
 
 pub ways_need : (w : Bool) (p q : Code) → either_needs (cond w p q) (cond w q p) ≡ bit_or (needs p) (needs q)
 ways_need true p q = refl
@@ -105,16 +97,7 @@ ways_go false p q h = rw (fixed_goes p (and_left (fixed_time p) (fixed_time q) h
 
 -- Literal one is true.
 pub literal_true : (sc : Script) (s : State) (e : Expr) → T (is_literal_one e) → is_zero (value_of two_point sc s e) ≡ false
-literal_true sc s [] h = absurd h
-literal_true sc s (constant (pos n) ∷ []) h = rw (eqb→eq n 1 h)
-literal_true sc s (constant (negsuc n) ∷ []) h = absurd h
-literal_true sc s (constant (pos n) ∷ (o ∷ e)) h = absurd h
-literal_true sc s (constant (negsuc n) ∷ (o ∷ e)) h = absurd h
-literal_true sc s (variable x ∷ e) h = absurd h
-literal_true sc s (sample x ∷ e) h = absurd h
-literal_true sc s (held x ∷ e) h = absurd h
-literal_true sc s (binary b ∷ e) h = absurd h
-literal_true sc s (unary u ∷ e) h = absurd h
+literal_true sc s e h = search rules
 
 -- Apart from two masks.
 pub apart_or : (m a b : ℕ) → apart m (bit_or a b) ≡ apart m a && apart m b

@@ -1,5 +1,5 @@
 -- What is open at two levels, and what carries variety.
-use Rattle.std.proofs.Common.{◌≡◌, ℕ, zero, suc, pred, ◌+◌, max, Bool, true, false, not, ◌&&◌, ◌||◌, eqb, leb, [], ◌∷◌, get_or, sym, refl, ap, ◌∙◌, arith}
+use Rattle.std.proofs.Common.{◌≡◌, ℕ, zero, suc, pred, ◌+◌, max, Bool, true, false, not, ◌&&◌, ◌||◌, eqb, leb, [], ◌∷◌, get_or, sym, refl, ap, ◌∙◌, arith, rules}
 use lib.Dec.{eqb-suc-zero, leb-suc-zero}
 use Rattle.model.specs.Levels.{is_open}
 use Rattle.codec.specs.Expressions.{Expr}
@@ -23,10 +23,7 @@ open_join a b = ap (λ (n : ℕ). is_open n) (join_max a b) ∙ go a
         ap (λ (n : ℕ). is_open n) e ∙ eqb-suc-zero (pred (max (suc a) b)) ∙ sym (ap (λ (v : Bool). v && is_open b) (eqb-suc-zero a))
 
 pub nought_sum : (a b : ℕ) → eqb (a + b) 0 ≡ eqb a 0 && eqb b 0
-nought_sum zero b = let e : 0 + b ≡ b = omega arith in ap (λ (n : ℕ). eqb n 0) e
-nought_sum (suc a) b =
-    let e : suc a + b ≡ suc (a + b) = omega arith in
-    ap (λ (n : ℕ). eqb n 0) e ∙ eqb-suc-zero (a + b) ∙ sym (ap (λ (v : Bool). v && eqb b 0) (eqb-suc-zero a))
+nought_sum a b = search rules
 
 pub flows_open : (a : ℕ) → leb a 0 ≡ is_open a
 flows_open zero = refl

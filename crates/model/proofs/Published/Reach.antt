@@ -1,6 +1,5 @@
 -- Every state that a run reaches keeps what Sound says.
-use Rattle.std.proofs.Common.{◌≡◌, ℕ, zero, suc, ◌+◌, ◌<◌, ◌≤◌, Bool, true, false, cond, not, ◌&&◌, ◌||◌, T, eqb, List, [], ◌∷◌, map, length, get_or, set, sym, refl, ap, ◌∙◌, subst, inl, inr, arith, eqb→eq, length-set}
-use lib.Dec.{eqb-suc-zero}
+use Rattle.std.proofs.Common.{◌≡◌, ℕ, zero, suc, ◌+◌, ◌<◌, ◌≤◌, Bool, true, false, cond, not, ◌&&◌, ◌||◌, T, eqb, List, [], ◌∷◌, map, length, get_or, set, sym, refl, ap, ◌∙◌, subst, inl, inr, arith, eqb→eq, length-set, rules}
 use lib.ListN.{length-replicate}
 use lib.Bits.{bit_or}
 use Rattle.model.specs.Levels.{is_open}
@@ -56,9 +55,7 @@ raise_at marked l cs y h =
 -- One thread changes
 
 pub more_than_none : (a b : ℕ) → a ≤ b → eqb a 0 ≡ false → eqb b 0 ≡ false
-more_than_none zero zero h e = e
-more_than_none (suc a) zero h e = absurd (omega arith)
-more_than_none a (suc b) h e = eqb-suc-zero b
+more_than_none a b h e = search rules
 
 module _ {n : ℕ} {cs : List Cell} {ts : List Thread} (K : Kept n cs ts) (i : ℕ) (t : Thread) (g : Good t) where
   kept_set : (cs' : List Cell) → length cs' ≡ n →
@@ -100,9 +97,7 @@ module _ {n : ℕ} {cs : List Cell} {ts : List Thread} (K : Kept n cs ts) (i : �
 -- Ready threads
 
 pub ready_parts : (b w : Bool) → T (status_is_ready (chosen_status b w)) → (b ≡ false) × (w ≡ false)
-ready_parts true w h = absurd h
-ready_parts false true h = absurd h
-ready_parts false false h = (refl, refl)
+ready_parts b w h = search rules
 
 cond_less : (b : Bool) (n : ℕ) → n ≤ cond b (suc n) n
 cond_less true n = omega arith
@@ -110,10 +105,7 @@ cond_less false n = omega arith
 
 -- A way of a branch, just entered.
 in_fact : (c : ℕ) (po lo a : Bool) → lo ≡ false → T a → (po ≡ false → eqb c 0 ≡ false) → eqb (cond ((po && not lo) && a) (suc c) c) 0 ≡ false
-in_fact c true false true e h f = eqb-suc-zero c
-in_fact c true false false e h f = absurd h
-in_fact c true true a e h f = clear true tt e
-in_fact c false lo a e h f = f refl
+in_fact c po lo a e h f = search rules
 
 need_fact : (n need r : ℕ) (po lo : Bool) → lo ≡ false → T (test n need) → (po ≡ false → T (test n r)) → T (test n (bit_or (cond (po && not lo) need 0) r))
 need_fact n need r true false e h f = rw (test_or n need r) (or_left (test n need) (test n r) h)
@@ -132,9 +124,7 @@ ways_bound l w p q next os h true = way_bound l w p q next p os h (λ x a. or_le
 ways_bound l w p q next os h false = way_bound l w p q next q os h (λ x a. or_right (assigns x p) (assigns x q) a) (λ n a. rw (test_or n (needs p) (needs q)) (or_right (test n (needs p)) (test n (needs q)) a)) (λ a. and_right (fixed_time p) (fixed_time q) a)
 
 implied : (a b : Bool) → not a && not b ≡ false → b ≡ false → T a
-implied true b e h = tt
-implied false true e h = clear true tt h
-implied false false e h = clear true tt e
+implied a b e h = search rules
 
 module _ (sc : Script) (s : State) (K : Kept sc.variables s.cells s.threads) (i : ℕ) where
   -- What a branch that is ready has about it.

@@ -1,5 +1,5 @@
 -- What holds of every state that a run reaches: of each thread's blocks and code, of locks, and of the variables that closed branches assign.
-use Rattle.std.proofs.Common.{◌≡◌, ℕ, zero, suc, ◌+◌, ◌<◌, ◌≤◌, Bool, true, false, cond, not, ◌&&◌, ◌||◌, T, eqb, ◌⊎◌, List, [], ◌∷◌, length, get_or, set, sym, refl, ap, ◌∙◌, inl, inr, arith}
+use Rattle.std.proofs.Common.{◌≡◌, ℕ, zero, suc, ◌+◌, ◌<◌, ◌≤◌, Bool, true, false, cond, not, ◌&&◌, ◌||◌, T, eqb, ◌⊎◌, List, [], ◌∷◌, length, get_or, set, sym, refl, ap, ◌∙◌, inl, inr, arith, rules}
 use lib.Dec.{eqb-suc-suc, eqb-suc-zero, eqb-zero-suc}
 use lib.Bits.{bit_or}
 use Rattle.model.specs.Levels.{is_open}
@@ -13,9 +13,9 @@ use Rattle.model.specs.Threads.Open.{in_branch, in_loop, in_lock}
 use Rattle.model.specs.Automaton.{all_bottom}
 use Rattle.lattice.specs.Orders.{two_point}
 use Rattle.model.specs.Follows.{outermost, counted, assigning, word}
-use Rattle.model.proofs.Tests.{is_true, and_left, and_right, and_false, or_left, or_right}
+use Rattle.model.proofs.Tests.{is_true, and_left, and_right, or_left, or_right}
 use Rattle.model.proofs.Published.Masks.{test, test_or, test_zero}
-use Rattle.model.proofs.Published.Opens.{open_join, nought_sum}
+use Rattle.model.proofs.Published.Opens.{nought_sum}
 use Rattle.model.proofs.Published.Locks.{holds}
 
 -- A stretch inside a closed branch: what it assigns and needs is the outermost closed branch's, and it takes a fixed time.
@@ -48,12 +48,12 @@ pub record Kept (n : ℕ) (cells : List Cell) (ts : List Thread) : Type 0 where
 -- Tests
 
 pub clear : {P : Type 0} (b : Bool) → T b → b ≡ false → P
-clear true h e = absurd (let z : ◌≡◌ {A = ℕ} 0 1 = cc in omega arith)
+clear true h e = absurd (cc)
 clear false h e = absurd h
 
 pub as_test : (b : Bool) → b ≡ true → T b
 as_test true e = tt
-as_test false e = let z : ◌≡◌ {A = ℕ} 0 1 = cc in absurd (omega arith)
+as_test false e = absurd cc
 
 pub as_false : (b : Bool) → (T b → ⊥) → b ≡ false
 as_false true f = absurd (f tt)
@@ -87,13 +87,7 @@ and_true false = refl
 
 guard_step : (inner l acc c : ℕ) (a po lo : Bool) → is_open l ≡ lo → (T lo → T po) → (T a → po ≡ false → eqb c 0 ≡ false) → is_open inner ≡ is_open acc && eqb c 0 →
     is_open (cond a (two_point.join inner l) inner) ≡ is_open acc && eqb (cond ((po && not lo) && a) (suc c) c) 0
-guard_step inner l acc c false true true e f g k = k
-guard_step inner l acc c false true false e f g k = k
-guard_step inner l acc c false false lo e f g k = k
-guard_step inner l acc c true true true e f g k = open_join inner l ∙ rw (e, and_true) k
-guard_step inner l acc c true true false e f g k = open_join inner l ∙ rw (e, eqb-suc-zero c) (simp and_false)
-guard_step inner l acc c true false true e f g k = absurd (f tt)
-guard_step inner l acc c true false false e f g k = open_join inner l ∙ rw (e, g tt refl) (simp and_false)
+guard_step inner l acc c a po lo e f g k = search rules
 
 pub guard_of_counted : (x : ℕ) (os : List Open) (acc : ℕ) → Sound os → is_open (guard_of two_point x os acc) ≡ is_open acc && eqb (counted x os) 0
 guard_of_counted x [] acc h = sym (and_true (is_open acc))

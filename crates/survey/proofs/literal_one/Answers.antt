@@ -1,9 +1,12 @@
-use Rattle.codec.specs.Operations.{op_of}
-use Rattle.survey.proofs.Literals.{not_read, read_first}
+use Rattle.std.proofs.Common.{true, false, rules}
+use Rattle.survey.proofs.Literals.{read_alone}
 use Rattle.survey.proofs.literal_one.Goals as goal
 
-pub returns-in_default : goal.returns-in_default
-returns-in_default c = not_read c.args.code.now c.in_default.ensures
+pub returns-in-Some-Constant-eq1-empty : goal.returns-in-Some-Constant-eq1-empty
+returns-in-Some-Constant-eq1-empty c = read_alone c.args.code.now c.first_op.result true c.first_op.ensures (search rules)
 
-pub returns : goal.returns
-returns c = read_first c.args.code.now c.in-Some.rest.now (op_of c.in-Some.op) c.is_one.result c.is_empty.result c.in-Some.ensures c.is_one.ensures c.is_empty.ensures
+pub returns-in_default : goal.returns-in_default
+returns-in_default c = read_alone c.args.code.now c.first_op.result false c.first_op.ensures (search rules)
+
+pub returns-in_default-4 : goal.returns-in_default-4
+returns-in_default-4 c = read_alone c.args.code.now c.first_op.result false c.first_op.ensures (search rules)

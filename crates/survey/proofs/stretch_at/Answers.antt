@@ -6,5 +6,5 @@ use Rattle.survey.proofs.stretch_at.Goals as goal
 
 pub returns-then-place-gt-FRAMES : goal.returns-then-place-gt-FRAMES
 returns-then-place-gt-FRAMES c =
-    none_found c.args.slab.now c.args.place c.nothing.result
+    none_found c.args.slab.now c.args.place c.none.result
     (λ kind k fs h. sym (numbered_past fs c.args.place (omega (arith, held_few kind k c.args.slab.now fs h, c.if-place-gt-FRAMES.true))))

@@ -24,12 +24,12 @@ returns c =
     let is : BeginsThread slab place true = subst (BeginsThread slab place) c.if-not-begins_thread.false c.begins_thread.ensures in
     let s = c.survey_from-thread.result in
     let inside = c.survey_from-thread.ensures in
-    let on : s.end ≤ c.past.result = not_back c.past.ensures.place in
+    let on : s.end ≤ c.past.result = not_back c.past.ensures in
     record {
       start = omega (arith, on, inside.start);
-      end = not_over c.past.ensures.place inside.end;
-      outside = end_outside slab place is s inside.survey c.past.result c.past.ensures.place;
+      end = not_over c.past.ensures inside.end;
+      outside = end_outside slab place is s inside.survey c.past.result c.past.ensures;
       steps = joined
           (joined (put (sym (within {place = place} refl c.requires.place)) (right_begin slab place is) (c.put_step-2.ensures ∙ ap (λ (x : Step). set c.args.table.now place x) c.plain-2.ensures)) inside.steps)
-          (put c.past.ensures.place (right_end slab place is s inside.survey) (c.put_step-3.ensures ∙ ap (λ (x : Step). set c.survey_from-thread.new.table s.end x) c.plain-3.ensures));
+          (put c.past.ensures (right_end slab place is s inside.survey) (c.put_step-3.ensures ∙ ap (λ (x : Step). set c.survey_from-thread.new.table s.end x) c.plain-3.ensures));
     }

@@ -1,34 +1,33 @@
-use Rattle.std.proofs.Common.{◌≡◌, ◌<◌, ◌≤◌, length, inl, inr, ⊎_elim, arith, length-drop, length-set, length-take, rules, true-eqb}
-use Rattle.std.proofs.lemmas.List.{nil_from_length}
-use Rattle.codec.proofs.LineSteps.{digits_again, digits_none, digits_over, digits_odd, zeros_again, zeros_over}
+use Rattle.std.proofs.Common.{◌≡◌, ◌*◌, eqb, length, drop, sym, ap, ◌∙◌, inl, inr, arith, length-drop, length-set}
+use Rattle.codec.specs.Slots.{front, perhaps}
+use Rattle.codec.proofs.LineSteps.{pair_at, digits_again, digits_none, digits_over, zeros_again}
 use Rattle.codec.proofs.lines.read_pairs.Goals as goal
 
-pub returns-then-high-gt15 : goal.returns-then-high-gt15
-returns-then-high-gt15 c =
-    let two : 2 ≤ length c.loop-rest.rest.now = search rules in
-    record { bytes = digits_none c.loop-rest.bytes c.loop-rest.rest.now c.loop-rest.len _ two (⊎_elim (λ h. inl (omega arith)) (λ h. inr (omega arith)) c.then-high-gt15.either) c.loop-rest.invariant.2; slot = tt }
+pub returns-in_err-digit_worth-clause-bytes : goal.returns-in_err-digit_worth-clause-bytes
+returns-in_err-digit_worth-clause-bytes c =
+    let pair = pair_at _ c.args.line.now c.loop-i.i c.as_chunks.ensures.front c.as_chunks.ensures.front_len c.loop-i-test.true in
+    ap (perhaps front) c.from_residual.ensures
+    ∙ digits_none c.loop-i.bytes _ c.loop-i.i _ pair.two (inl (omega (arith, c.in_err-digit_worth.ensures.table))) c.loop-i.invariant.bytes
 
-pub loop-rest-preserved : goal.loop-rest-preserved
-loop-rest-preserved c =
-    let two : 2 ≤ length c.loop-rest.rest.now = search rules in
-    let room : c.loop-rest.len < length c.loop-rest.bytes = search rules in
-    let high : c.worth-high.result < 16 = search rules in
-    let low : c.worth-low.result < 16 = search rules in (
-      simp (length-take, length-drop) (omega (arith, c.loop-rest.invariant.0)),
-      simp length-set c.loop-rest.invariant.1,
-      digits_again c.loop-rest.bytes c.loop-rest.rest.now c.loop-rest.len c.worth-high.result c.worth-low.result _ room two c.worth-high.ensures c.worth-low.ensures high low c.loop-rest.invariant.2,
-      zeros_again c.loop-rest.bytes c.loop-rest.len _ c.loop-rest.invariant.3,
-    )
+pub returns-in_err-bytes-clause-bytes : goal.returns-in_err-bytes-clause-bytes
+returns-in_err-bytes-clause-bytes c =
+    let pair = pair_at _ c.args.line.now c.loop-i.i c.as_chunks.ensures.front c.as_chunks.ensures.front_len c.loop-i-test.true in
+    ap (perhaps front) c.from_residual-in_err-bytes.ensures
+    ∙ digits_none c.loop-i.bytes _ c.loop-i.i _ pair.two (inr (omega (arith, c.in_err-bytes.ensures.table))) c.loop-i.invariant.bytes
 
-pub returns-then-is_empty : goal.returns-then-is_empty
-returns-then-is_empty c =
-    let none = nil_from_length c.loop-rest.rest.now (true-eqb _ 0 c.if-is_empty.ensures) in
+pub loop-i-preserved : goal.loop-i-preserved
+loop-i-preserved c =
+    let pair = pair_at _ c.args.line.now c.loop-i.i c.as_chunks.ensures.front c.as_chunks.ensures.front_len c.loop-i-test.true in
     record {
-      bytes = digits_over c.loop-rest.bytes c.loop-rest.rest.now c.loop-rest.len _ none c.loop-rest.invariant.2;
-      slot = record { short = omega arith; zeros = zeros_over c.loop-rest.bytes c.loop-rest.len (omega arith) c.loop-rest.invariant.3 };
+      long = simp length-set c.loop-i.invariant.long;
+      bytes = digits_again c.loop-i.bytes c.args.line.now c.loop-i.i _ _ _ (omega (arith, c.as_chunks.ensures.front_len)) pair.two
+          (c.in_ok-digit_worth.ensures.table ∙ pair.high) (c.in_ok-bytes.ensures.table ∙ pair.low) c.in_ok-digit_worth.ensures.digit c.in_ok-bytes.ensures.digit c.loop-i.invariant.bytes;
+      zeros = zeros_again c.loop-i.bytes c.loop-i.i _ c.loop-i.invariant.zeros;
     }
 
-pub returns-else-is_empty : goal.returns-else-is_empty
-returns-else-is_empty c =
-    let one : length c.loop-rest.rest.now ≡ 1 = search rules in
-    record { bytes = digits_odd c.loop-rest.bytes c.loop-rest.rest.now c.loop-rest.len _ one c.loop-rest.invariant.2; slot = tt }
+pub returns-clause-bytes : goal.returns-clause-bytes
+returns-clause-bytes c =
+    let all : c.loop-i.i ≡ length c.as_chunks.result.0.now = omega arith in
+    let left : length (drop (2 * c.loop-i.i) c.args.line.now) ≡ length c.as_chunks.result.1.now = simp length-drop (omega (arith, c.as_chunks.ensures.front_len, c.as_chunks.ensures.back_len)) in
+    ap (perhaps front) c.then_some.ensures
+    ∙ digits_over c.loop-i.bytes (drop (2 * c.loop-i.i) c.args.line.now) c.loop-i.i _ _ _ all (omega (arith, c.as_chunks.ensures.back_len)) (c.is_empty.ensures ∙ ap (λ n. eqb n 0) (sym left)) c.loop-i.invariant.bytes

@@ -4,6 +4,6 @@ use Rattle.runs.proofs.Core.survey.Given as goal
 
 abbrev pub invariant-loop-i : goal.invariant-loop-i
 invariant-loop-i g l =
-    ReadyList g.K.Lattice.order l.table l.code l.samples l.self l.marks l.ready l.i
-    × (length l.ready ≡ 8)
-    × (l.over ≡ over_first g.K.Lattice.order l.table l.code l.samples l.self l.marks l.i)
+    ReadyList g.K.Lattice.order l.inputs.table.now l.inputs.code.now l.inputs.samples.now l.self l.marks l.threads l.i
+    × (length l.threads ≡ l.self.head.threads)
+    × (l.over ≡ over_first g.K.Lattice.order l.inputs.table.now l.inputs.code.now l.inputs.samples.now l.self l.marks l.i)

@@ -1,13 +1,13 @@
-use Rattle.std.proofs.Common.{◌≡◌, T, length, pos, sym, ap, ◌∙◌, subst, arith, length-set, w32}
+use Rattle.std.proofs.Common.{◌≡◌, T, length, pos, sym, ap, ◌∙◌, subst, arith, w32, rules}
 use Rattle.std.proofs.lemmas.Int.{to_z-of_z}
-use Rattle.codec.specs.Expressions.{Expr, decode}
-use Rattle.codec.specs.Operations.{op_of}
+use Rattle.codec.specs.Expressions.{Expr}
+use Rattle.codec.specs.Operations.{left}
 use Rattle.codec.specs.Sound.{declared, leaves_one}
 use Rattle.model.specs.Values.{eval, top}
 use Rattle.runs.specs.declared.stack.Stack.{Stack}
 use Rattle.runs.specs.Operations.{numbers_from}
 use Rattle.runs.specs.Flat.{cells_of, tracks_of, head_of_core}
-use Rattle.runs.proofs.Levels.{named_first, ops_more, ops_none}
+use Rattle.runs.proofs.Levels.{named_first}
 use Rattle.runs.proofs.Stacks.{room_first, eval_more, one_left, top_is}
 use Rattle.runs.proofs.Core.value.Goals as goal
 
@@ -16,13 +16,12 @@ apply-numbers-requires c =
     let h = head_of_core c.args.self.now in
     let n = c.loop-op.numbers.held in
     let o = c.in-Some.op in
-    let e = (decode 0 c.in-Some.after.now).ops in
-    let more = ops_more c.loop-op.rest.now (op_of o) c.in-Some.after.now c.in-Some.ensures in
+    let e = left c.next.new.self in
+    let more = c.in-Some.ensures.steps in
     let D : Expr → Type 0 = λ z. T (declared h z) in
     let L : Expr → Type 0 = λ z. T (leaves_one n z) in
     let r = room_first o e n c.loop-op.invariant.2 (subst L more c.loop-op.invariant.1) in
     record {
-      few = c.requires.few;
       tracks = c.requires.tracks;
       named = (named_first h o e (subst D more c.loop-op.invariant.0)).0;
       held = (r.few, r.room);
@@ -36,10 +35,10 @@ loop-op-preserved c =
     let b = c.loop-op.numbers.base in
     let w = c.loop-op.work in
     let o = c.in-Some.op in
-    let e = (decode 0 c.in-Some.after.now).ops in
+    let e = left c.next.new.self in
     let cells = cells_of s in
     let tracks = tracks_of s c.args.samples.now in
-    let more = ops_more c.loop-op.rest.now (op_of o) c.in-Some.after.now c.in-Some.ensures in
+    let more = c.in-Some.ensures.steps in
     let D : Expr → Type 0 = λ z. T (declared (head_of_core s) z) in
     let L : Expr → Type 0 = λ z. T (leaves_one n z) in
     let N : Stack → Type 0 = λ z. T (leaves_one z.held e) in
@@ -48,13 +47,14 @@ loop-op-preserved c =
     let base : c.apply-numbers.result.base ≡ b = ap (λ (z : Stack). z.base) numbers in
     let held = ap (λ (z : Stack). z.held) numbers in
     let work = c.apply-numbers.ensures.work in
-    let long : length c.apply-numbers.new.work ≡ length w = ap length work ∙ length-set w _ _ in (
+    let long : length w ≡ 16 = search rules in
+    let zero = c.loop-op.invariant.3 in (
       (named_first (head_of_core s) o e (subst D more c.loop-op.invariant.0)).1,
       subst N (sym numbers) r.later,
       (let room = r.room in omega arith),
-      (let before = c.loop-op.invariant.3 in omega arith),
+      base ∙ zero,
       (λ j. eval cells tracks e (numbers_from (numbers j).base (numbers j).held (work j)))
-          ∙ eval_more cells tracks b o e n w r.few r.room c.loop-op.invariant.3
+          ∙ eval_more cells tracks b o e n w r.few r.room (omega arith)
           ∙ ap (λ (z : Expr). eval cells tracks z (numbers_from b n w)) (sym more) ∙ c.loop-op.invariant.4,
     )
 
@@ -62,7 +62,7 @@ pub item-requires : goal.item-requires
 item-requires c =
     let n = c.loop-op.numbers.held in
     let L : Expr → Type 0 = λ z. T (leaves_one n z) in
-    let one = one_left n (subst L (ops_none c.loop-op.rest.now c.in_default.ensures) c.loop-op.invariant.1) in
+    let one = one_left n (subst L (c.in-None.ensures.steps.0) c.loop-op.invariant.1) in
     let room = c.loop-op.invariant.3 in
     (omega arith, (omega arith, omega arith))
 
@@ -72,7 +72,7 @@ returns c =
     let n = c.loop-op.numbers.held in
     let b = c.loop-op.numbers.base in
     let w = c.loop-op.work in
-    let none = ops_none c.loop-op.rest.now c.in_default.ensures in
+    let none = c.in-None.ensures.steps.0 in
     let L : Expr → Type 0 = λ z. T (leaves_one n z) in
     let one = one_left n (subst L none c.loop-op.invariant.1) in
     to_z-of_z w32 c.item.result (record { sfits = c.item.type_inv })

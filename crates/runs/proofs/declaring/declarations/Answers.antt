@@ -2,19 +2,19 @@ use Rattle.std.proofs.Common.{arith, rules}
 use Rattle.runs.proofs.Stored.{declares_as, held_bounds}
 use Rattle.runs.proofs.declaring.declarations.Goals as goal
 
+pub returns-in_err-found : goal.returns-in_err-found
+returns-in_err-found g c = rw c.from_residual.ensures (λ sc i. c.in_err-found.ensures _ i.holds)
+
 pub ports-requires : goal.ports-requires
 ports-requires g c =
-    let b = held_bounds g.K.Lattice.kind g.K.Lattice.order c.args.script.now c.in-Some.found c.in-Some.ensures in
+    let b = held_bounds g.K.Lattice.kind g.K.Lattice.order c.args.script.now c.in_ok-found.found c.in_ok-found.ensures in
     (b.tracks, omega arith)
 
-pub ports-requires-in-Some : goal.ports-requires-in-Some
-ports-requires-in-Some g c =
-    let b = held_bounds g.K.Lattice.kind g.K.Lattice.order c.args.script.now c.in-Some.found c.in-Some.ensures in
+pub ports-requires-2 : goal.ports-requires-2
+ports-requires-2 g c =
+    let b = held_bounds g.K.Lattice.kind g.K.Lattice.order c.args.script.now c.in_ok-found.found c.in_ok-found.ensures in
     (b.channels, omega (arith, b.tracks))
 
-pub returns-in-Some : goal.returns-in-Some
-returns-in-Some g c =
-    declares_as g.K.Lattice.kind g.K.Lattice.order c.args.script.now c.in-Some.found c.in-Some.ensures c.ports.result c.ports-in-Some.result (search rules) (search rules) c.ports.ensures c.ports-in-Some.ensures
-
-pub returns-in-None : goal.returns-in-None
-returns-in-None g c sc i = c.in-None.ensures _ i.holds
+pub returns : goal.returns
+returns g c =
+    declares_as g.K.Lattice.kind g.K.Lattice.order c.args.script.now c.in_ok-found.found c.in_ok-found.ensures c.ports.result c.ports-2.result (search rules) (search rules) c.ports.ensures c.ports-2.ensures

@@ -1,17 +1,16 @@
-use Rattle.std.proofs.Common.{◌≡◌, ℕ, ◌+◌, get_or, sym, ap, ◌∙◌, add-one, arith}
-use Rattle.runs.specs.Flat.{nil_port}
-use Rattle.runs.specs.Kept.{room}
-use Rattle.runs.proofs.Stored.{room_more, room_none, room_part}
+use Rattle.std.proofs.Common.{◌≡◌, ◌≤◌, length, take, sum_by, sym, ◌∙◌, arith, rules}
+use Rattle.runs.specs.declared.Port.{Port}
+use Rattle.runs.proofs.Stored.{room_is}
 use Rattle.runs.proofs.finding.room_of.Goals as goal
 
-pub loop-h-init : goal.loop-h-init
-loop-h-init c = sym (room_none c.args.ports)
-
-pub overflow_add-all : goal.overflow_add-all
-overflow_add-all c = omega (arith, room_part c.args.ports c.loop-h.h c.args.n c.loop-h-test.true, c.loop-h.invariant, c.requires.small)
-
-pub loop-h-preserved : goal.loop-h-preserved
-loop-h-preserved c = ap (λ (x : ℕ). x + (get_or c.args.ports c.loop-h.h nil_port).size) c.loop-h.invariant ∙ sym (ap (room c.args.ports) (add-one c.loop-h.h) ∙ room_more c.args.ports c.loop-h.h)
+pub sum-requires-clause-fits : goal.sum-requires-clause-fits
+sum-requires-clause-fits c =
+    let long : length c.args.ports ≡ 8 = search rules in
+    let few : sum_by (λ (p : Port). p.size) (take c.args.n c.args.ports) ≤ 2048 = omega (arith, room_is c.args.ports c.args.n (omega arith)) in
+    search rules
 
 pub returns : goal.returns
-returns c = let e : c.loop-h.h ≡ c.args.n = omega (arith, c.loop-h-test.false) in c.loop-h.invariant ∙ ap (room c.args.ports) e
+returns c =
+    let long : length c.args.ports ≡ 8 = search rules in
+    let e : c.sum.result ≡ sum_by (λ (p : Port). p.size) (take c.args.n c.args.ports) = search rules in
+    e ∙ sym (room_is c.args.ports c.args.n (omega arith))

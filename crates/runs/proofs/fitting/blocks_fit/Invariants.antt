@@ -1,7 +1,10 @@
-use Rattle.std.proofs.Common.{◌≡◌}
+use Rattle.std.proofs.Common.{◌≡◌, length}
+use Rattle.runs.specs.Flat.{first_mark, level_inside}
 use Rattle.runs.specs.Turns.{all_first}
 use Rattle.runs.specs.Fitted.{block_suits}
 use Rattle.runs.proofs.fitting.blocks_fit.Given as goal
 
-abbrev pub invariant-loop-d : goal.invariant-loop-d
-invariant-loop-d g l = l.all ≡ all_first (block_suits g.K.Lattice.order l.table l.around.openers l.marks l.base) l.d
+abbrev pub invariant-loop-mark : goal.invariant-loop-mark
+invariant-loop-mark g l =
+    (l.outside ≡ level_inside l.marks (first_mark l.i) (length l.yielded))
+    × (l.all ≡ all_first (block_suits g.K.Lattice.order l.table l.fn.around.openers l.marks (first_mark l.i)) (length l.yielded))

@@ -1,12 +1,23 @@
-use Rattle.std.proofs.Common.{◌+◌, length, sym, ap, ◌∙◌, arith}
-use Rattle.codec.specs.Expressions.{Expr, expr_bytes}
-use Rattle.codec.proofs.Postfix.{none_read}
+use Rattle.std.proofs.Common.{length, ◌∙◌, arith, rules}
+use Rattle.std.proofs.lemmas.Iterator.{YieldsList-from_map}
+use Rattle.std.proofs.lemmas.Iterator.Consumers.{YieldsList-at, YieldsList-from_first, sum_by_from_yields_List, fits_by_from_yields_list}
+use Rattle.codec.specs.Expressions.{Expr, Op, decode, op_bytes}
+use Rattle.codec.specs.Operations.{left, op_of}
+use Rattle.script.proofs.SlotLengths.{decode_few, expr_short, expr_sum}
 use Rattle.script.proofs.finding.code_length.Goals as goal
 
-pub overflow_add-n : goal.overflow_add-n
-overflow_add-n c = omega (arith, c.op_length-n.ensures.short, c.loop-op.invariant.1, c.requires)
+pub sum-requires-clause-fits : goal.sum-requires-clause-fits
+sum-requires-clause-fits c =
+    let e : Expr = (decode 0 c.args.code.now).ops in
+    fits_by_from_yields_list (λ (o : Op). length (op_bytes o)) e c.map.result _
+    (YieldsList-from_map _ (λ (o : Op). length (op_bytes o)) (YieldsList-at c.map.ensures.source (YieldsList-from_first op_of left e c.new.ensures)) c.map.ensures.closure (λ x r q k. search rules))
+    (omega (arith, expr_sum e, expr_short e, decode_few 0 c.args.code.now, c.requires))
 
 pub returns : goal.returns
 returns c =
-    let e = ap (λ (x : Expr). c.loop-op.n + length (expr_bytes x)) (sym (none_read c.loop-op.rest.now c.in_default.ensures)) ∙ c.loop-op.invariant.0 in
-    record { length = omega arith; short = omega arith }
+    let e : Expr = (decode 0 c.args.code.now).ops in
+    let n =
+    sum_by_from_yields_List (λ (o : Op). length (op_bytes o)) e c.map.result c.sum.result c.sum.ensures.ran
+    (YieldsList-from_map _ (λ (o : Op). length (op_bytes o)) (YieldsList-at c.map.ensures.source (YieldsList-from_first op_of left e c.new.ensures)) c.map.ensures.closure (λ x r q k. search rules))
+    ∙ expr_sum e in
+    record { length = n; short = omega (arith, expr_short e, decode_few 0 c.args.code.now) }

@@ -3,11 +3,6 @@ use Rattle.std.proofs.lemmas.Result.{err_from_is_err_and}
 use Rattle.sledge.proofs.Sessions.{as_refused}
 use Rattle.sledge.proofs.session.start.Goals as goal
 
-pub returns-in_err-slab : goal.returns-in_err-slab
-returns-in_err-slab g c n l e =
-    let p = err_from_is_err_and c.from_residual.result c.from_residual.ensures.1 in
-    rw (p.1, p.2) (tt, refl)
-
 pub returns-in_err-accepted : goal.returns-in_err-accepted
 returns-in_err-accepted g c n l e =
     let room : 26112 ≤ length c.deref_mut.result.now = search rules in

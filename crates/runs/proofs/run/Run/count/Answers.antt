@@ -1,26 +1,24 @@
-use Rattle.std.proofs.Common.{◌≤◌, length, arith}
-use Rattle.runs.specs.Kept.{entries_needed}
-use Rattle.runs.proofs.Looking.{counts_none, counts_one}
-use Rattle.runs.proofs.Stored.{room_part}
+use Rattle.std.proofs.Common.{◌≡◌, Err, Result, subst, rules, arith}
+use Rattle.script.specs.declared.faults.RunFault.{RunFault}
+use Rattle.runs.specs.Calls.{Counts}
+use Rattle.runs.proofs.Feeding.{held_in, size_in}
+use Rattle.runs.proofs.Looking.{counts_found, counts_missing}
 use Rattle.runs.proofs.run.Run.count.Goals as goal
 
-pub returns-then-channel-self : goal.returns-then-channel-self
-returns-then-channel-self g c =
-    let long : entries_needed c.args.self.now.core ≤ length c.args.entries.now = omega arith in
-    counts_none _ _ _ c.args.channel c.args.self.now.core _ c.args.entries.now long c.if-channel-self.true
+pub returns-in_err-port : goal.returns-in_err-port
+returns-in_err-port g c =
+    let run = c.args.self.now in
+    let fault : ◌≡◌ {A = Result _ RunFault} (Err c.in_err-port.field-0.0) c.from_residual.result = search rules in
+    subst (Counts g.K.Lattice.kind g.K.Lattice.order g.S.Scheduler.meaning c.args.channel run.core run.scheduler c.args.entries.now) fault (counts_missing _ _ _ c.args.channel run.core _ c.args.entries.now _ c.in_err-port.ensures)
 
 -- A channel holds at most 512 entries.
 pub overflow_cast-result : goal.overflow_cast-result
 overflow_cast-result g c =
     let run = c.args.self.now in
-    let less = c.if-channel-self.false in
-    let part = room_part run.core.channels c.args.channel run.core.head.channels less in
-    let fits = run.put c.args.channel less in
+    let held = held_in _ _ _ _ _ c.in_ok-port.ensures run.channels run.put in
+    let part = size_in _ _ _ _ _ c.in_ok-port.ensures run.channels in
     let small = run.small.1 in
     record { fits = omega arith }
 
 pub returns : goal.returns
-returns g c =
-    let run = c.args.self.now in
-    let long : entries_needed c.args.self.now.core ≤ length c.args.entries.now = omega arith in
-    counts_one _ _ _ c.args.channel run.core _ c.args.entries.now long run.channels run.put c.if-channel-self.false
+returns g c = let run = c.args.self.now in counts_found _ _ _ c.args.channel run.core _ c.args.entries.now _ c.in_ok-port.ensures run.channels run.put
