@@ -1,6 +1,6 @@
 // The memory that a run is lent at each call: a script, and as much of all else as it declares.
 ghost use Rattle.std.specs.Prelude.{◌≡◌, length, MatchResult};
-ghost use Rattle.runs.specs.Calls.{Advances, Closes, Counts, Finds, Made, NotMade, fed_answer};
+ghost use Rattle.runs.specs.Calls.{Advances, Closes, Counts, Finds, Made, NotMade, Feeds};
 ghost use Rattle.runs.specs.Memory.{memory};
 ghost use Rattle.runs.specs.Zeros.{AllZero};
 
@@ -58,15 +58,14 @@ impl Slabs {
         )
     }
 
-    // One sample more on a track: how many it then holds. What the run promises of its samples and of the machine was tried as the
-    // clause, and the proof didn't close over the samples as this memory has them: the clause is the answer's.
+    // One sample more on a track: how many it then holds.
     pub fn feed<K: Lattice, S: Scheduler + Drop>(
         &mut self,
         run: &mut Run<K, S>,
         track: u8,
         sample: i32,
     ) -> Result<u16, RunFault>
-        ensures { result ≡ fed_answer run.old.core self.old.samples.items track }
+        ensures { Feeds K.kind K.order S.meaning track sample run.old.core run.old.scheduler self.old.samples.items run.new.core run.new.scheduler self.new.samples.items result }
     {
         run.feed(track, sample, &mut self.samples)
     }
