@@ -28,20 +28,25 @@ abbrev pub lines_left : Lines → List (Perhaps (List ℕ))
 lines_left s = split s.text.now
 
 -- No line is left.
-abbrev pub NoLine : Lines → Type 0
-NoLine s = lines_left s ≡ []
+abbrev pub NoLine : List ℕ → Type 0
+NoLine text = split text ≡ []
 
--- The line is the first of those still to come, and has its number, at which a fault stands too; the others are left, under the numbers behind it.
-pub record TookLine (s : Lines) (l : M.Line) (t : Lines) : Type 0 where
-  pub first : lines_left s ≡ bytes_taken l.bytes ∷ lines_left t
-  pub number : l.number ≡ s.number
-  pub told_at : MatchResult l.bytes Padded (λ e. e.line ≡ s.number)
-  pub shorter : length t.text.now < length s.text.now
+-- The line is the first of the text and has this number, at which a fault stands too; what stands behind it is left, and is shorter.
+pub record TookLine (text : List ℕ) (number : ℕ) (l : M.Line) : Type 0 where
+  pub first : split text ≡ bytes_taken l.bytes ∷ split l.rest.now
+  pub numbered : l.number ≡ number
+  pub told_at : MatchResult l.bytes Padded (λ e. e.line ≡ number)
+  pub shorter : length l.rest.now < length text
+
+-- The line is the next of those still to come; those behind it are left, under the numbers behind its own.
+pub record WentOn (s : Lines) (l : M.Line) (t : Lines) : Type 0 where
+  pub took : TookLine s.text.now s.number l
+  pub left : t.text.now ≡ l.rest.now
   pub next : s.number < 65535 → t.number ≡ suc s.number
 
 -- What the iterator gives: the next line, or None where no line is left.
 abbrev pub NextLine : Lines → Option M.Line → Lines → Type 0
-NextLine s r t = MatchOption r (NoLine s × NoLine t) (λ l. TookLine s l t)
+NextLine s r t = MatchOption r (NoLine s.text.now × NoLine t.text.now) (λ l. WentOn s l t)
 
 -- What a run line says: who gives the turns, or a call.
 pub data Line : Type 0 where

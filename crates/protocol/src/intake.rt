@@ -1,5 +1,5 @@
 // The input before it is read: its length, the kind of levels that its header names, and where its script ends.
-ghost use Rattle.std.specs.Prelude.{◌≡◌, take, Some, IfOk, IfSome};
+ghost use Rattle.std.specs.Prelude.{◌≡◌, Some};
 ghost use Rattle.script.specs.Format.{named_kind};
 ghost use Rattle.protocol.specs.Intake.{Parted, ShortEnough, begins_last, kind_for, kind_name, kind_number};
 
@@ -7,9 +7,7 @@ use crate::run_lines::fault_at;
 use codec::lines::split_line;
 use script::faults::{Cause, RunFault};
 use script::kind_named;
-use std::alloc::Global;
-use std::io::Read;
-use std::{fmt, io};
+use std::fmt;
 
 // The most bytes that a program takes.
 pub const LONGEST: usize = 16_384;
@@ -30,15 +28,6 @@ impl fmt::Display for Kind {
             Kind::Bits => f.write_str("sets of sixteen bits"),
         }
     }
-}
-
-// All that a source has, or one byte more than is taken, so that too long an input shows.
-pub fn read_input<R: Read + Drop>(heap: Global, source: R) -> io::Result<Vec<u8>>
-    ensures { IfOk result (λ v. IfSome (R.remaining source) (λ all. v.items ≡ take 16385 all)) }
-{
-    let mut input = Vec::new(heap);
-    source.take(LONGEST as u64 + 1).read_to_end(&mut input)?;
-    Ok(input)
 }
 
 // An input that is too long is refused at no line, before anything of it is read.
@@ -83,22 +72,4 @@ pub fn split_script(text: &[u8]) -> (&[u8], &[u8])
         }
     }
     (text, &[])
-}
-
-#[cfg(test)]
-mod tests {
-    use super::*;
-    use std::test::Fail;
-
-    // A short input is read whole; of one that is too long, a byte more than is taken.
-    #[test]
-    fn inputs(rt: HostRuntime) -> Result<(), Fail> {
-        let text: &[u8] = b"7F0001\n";
-        let short = read_input(rt.alloc(), text)?;
-        assert!(rt; short.as_slice() == text);
-        let zeros = vec![in rt.alloc(); b'0'; 20_000]?;
-        let long = read_input(rt.alloc(), zeros.as_slice())?;
-        assert_eq!(rt; long.len(), 16_385);
-        Ok(())
-    }
 }

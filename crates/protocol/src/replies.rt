@@ -63,7 +63,8 @@ fn put_line(out: &mut Vec<u8>, bytes: &[u8]) -> Result<(), AllocError>
 {
     for byte in bytes {
         let (high, low) = digits_of(*byte);
-        out.extend_from_slice(&[high, low])?;
+        out.push(high)?;
+        out.push(low)?;
     }
     out.push(b'\n')?;
     Ok(())

@@ -1,11 +1,10 @@
 // Run lines, behind the script: first the scheduler, then calls.
 ghost use Rattle.std.specs.Iterator.{item_count};
-ghost use Rattle.std.specs.Prelude.{◌≡◌, ◌<◌, ◌∷◌, length, IfSome};
-ghost use Rattle.codec.specs.Lines.{split};
-ghost use Rattle.codec.specs.Slots.{Padded, front, perhaps};
+ghost use Rattle.std.specs.Prelude.{◌≡◌, MatchOption};
+ghost use Rattle.codec.specs.Slots.{perhaps};
 ghost use Rattle.script.specs.Refusals.{script_refusal};
 ghost use Rattle.script.specs.declared.faults.ScriptFault.TheVariants.{InFrame};
-ghost use Rattle.protocol.specs.RunLines.{NextLine, call_line, call_of, first_line, line_of, lines_left, run_line, scheduler_line, scheduling_of, told};
+ghost use Rattle.protocol.specs.RunLines.{NextLine, NoLine, TookLine, call_line, call_of, first_line, line_of, lines_left, run_line, scheduler_line, scheduling_of, told};
 
 use codec::lines::{Slot, read_line, split_line};
 use script::faults::{Cause, LineFault, ScriptFault};
@@ -13,11 +12,12 @@ use script::faults::{Cause, LineFault, ScriptFault};
 // The most picks of a scheduler's line.
 pub const PICKS: usize = 32;
 
-// A line of a text: its number, and the bytes that its digits give.
+// A line of a text: its number, the bytes that its digits give, and what stands behind it.
 #[derive(Clone, Copy)]
-pub struct Line {
+pub struct Line<'a> {
     pub number: u16,
     pub bytes: Result<Slot, LineFault>,
+    pub rest: &'a [u8],
 }
 
 // The lines of a text that are still to come, and the number of the first.
@@ -51,17 +51,24 @@ pub enum RunLine<'a> {
     Call(Call),
 }
 
-// The bytes of the first line, and what stands behind it. What no 0A ends is a line too, a faulty one, and the last.
-#[tactic(auto, using(crate::proofs::Taking::line_taken, crate::proofs::Taking::line_cut))]
-fn take_line(text: &[u8]) -> (Option<Slot>, &[u8])
-    requires { 0 < length text.now }
-    ensures first { split text.now ≡ perhaps front result.0 ∷ split result.1.now }
-    ensures slot { IfSome result.0 Padded }
-    ensures shorter { length result.1.now < length text.now }
+// The first line of a text, which has this number; None where no line is left. What no 0A ends is a line too, a faulty one, and the last.
+pub fn next_line(text: &[u8], number: u16) -> Option<Line<'_>>
+    ensures { MatchOption result (NoLine text.now) (TookLine text.now number) }
 {
+    if text.is_empty() {
+        return None;
+    }
     match split_line(text) {
-        Some((line, rest)) => (read_line(line), rest),
-        None => (None, &[]),
+        Some((line, rest)) => Some(Line {
+            number,
+            bytes: read_line(line).ok_or(LineFault { line: number }),
+            rest,
+        }),
+        None => Some(Line {
+            number,
+            bytes: Err(LineFault { line: number }),
+            rest: &[],
+        }),
     }
 }
 
@@ -78,27 +85,20 @@ impl<'a> Lines<'a> {
     }
 }
 
-impl Iterator for Lines<'_> {
-    type Item = Line;
+impl<'a> Iterator for Lines<'a> {
+    type Item = Line<'a>;
 
     ghost next_gives = { NextLine };
 
     ghost remaining = { item_count lines_left };
 
-    #[tactic(auto, using(crate::proofs::Taking::nothing_left))]
-    fn next(&mut self) -> Option<Line> {
-        if self.text.is_empty() {
-            return None;
-        }
+    fn next(&mut self) -> Option<Line<'a>> {
         let number = self.number;
-        let (bytes, rest) = take_line(self.text);
-        self.text = rest;
+        let line = next_line(self.text, number)?;
+        self.text = line.rest;
         // An input has far fewer lines than the count can hold.
         self.number = number.saturating_add(1);
-        Some(Line {
-            number,
-            bytes: bytes.ok_or(LineFault { line: number }),
-        })
+        Some(line)
     }
 }
 

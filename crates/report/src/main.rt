@@ -2,11 +2,13 @@
 #![tactic(auto)]
 
 use crate::account::{Account, refused};
+use crate::input::read_input;
 use lattice::{Bits, Lattice, TwoPoint};
-use protocol::intake::{Kind, kind_for_text, read_input, short_enough};
+use protocol::intake::{Kind, kind_for_text, short_enough};
 use script::{SLAB, read};
 
 mod account;
+mod input;
 mod words;
 
 fn report<K: Lattice>(rt: &HostRuntime, kind: Kind, text: &[u8]) -> anyhow::Result<()> {

@@ -1,13 +1,14 @@
 -- The loops over open blocks, a turn at a time.
-use Rattle.std.proofs.Common.{◌≡◌, ℕ, ◌+◌, ◌-◌, Bool, false, cond, eqb, List, get_or, refl, ap, ◌∙◌, add-one, arith, ne_eqb}
+use Rattle.std.proofs.Common.{◌≡◌, ℕ, zero, suc, ◌+◌, ◌-◌, Bool, true, false, cond, eqb, List, get_or, sym, refl, ap, ◌∙◌, add-one, arith, ne_eqb}
 use Rattle.lattice.specs.Levels.{Levels}
 use Rattle.survey.specs.declared.table.Step.{Step}
 use Rattle.runs.specs.declared.Mark.{Mark}
 use Rattle.runs.specs.declared.Place.{Place}
 use Rattle.runs.specs.Flat.{nil_mark, level_inside, guard_one, guard_marks, guard_threads, first_mark, nil_place}
 use Rattle.survey.specs.Table.{step_at_place}
-use lib.Bits.{bit_or}
-use Rattle.runs.specs.Statuses.{locks_of, held_one, against_first}
+use Rattle.lattice.specs.Ors.{or_assoc}
+use lib.Bits.{bit_or, or_comm}
+use Rattle.runs.specs.Statuses.{locks_of, owned_marks, held_one, against_first}
 
 pub inside_more : (ms : List Mark) (b d : ℕ) → level_inside ms b (d + 1) ≡ (get_or ms (b + d) nil_mark).level
 inside_more ms b d =
@@ -32,7 +33,34 @@ module _ (k : Levels) (table : List Step) (ms : List Mark) (x : ℕ) where
   unfolding guard_threads
   guard_threads_more ps n = ap (guard_threads k table ms x ps) (add-one n)
 
+or_pairs : (a b c d : ℕ) → bit_or (bit_or a b) (bit_or c d) ≡ bit_or (bit_or a c) (bit_or b d)
+or_pairs a b c d =
+    or_assoc a b (bit_or c d)
+    ∙ ap (bit_or a) (sym (or_assoc b c d) ∙ ap (λ (x : ℕ). bit_or x d) (or_comm b c) ∙ or_assoc c b d)
+    ∙ sym (or_assoc a c (bit_or b d))
+
 module _ (table : List Step) (ms : List Mark) where
+  -- Blocks that give two things each give what they would by two walks.
+  pub locks_both : (f g : Step → ℕ → ℕ → ℕ) (b d : ℕ) → locks_of table ms (λ s o i. bit_or (f s o i) (g s o i)) b d ≡ bit_or (locks_of table ms f b d) (locks_of table ms g b d)
+  unfolding locks_of
+  locks_both f g b zero = refl
+  locks_both f g b (suc d) =
+      let mk = get_or ms (b + d) nil_mark in
+      let s = step_at_place table mk.opener in
+      let o = level_inside ms b d in
+      ap (bit_or (bit_or (f s o mk.level) (g s o mk.level))) (locks_both f g b d)
+      ∙ or_pairs (f s o mk.level) (g s o mk.level) (locks_of table ms f b d) (locks_of table ms g b d)
+
+  locks_nothing : (b d : ℕ) → locks_of table ms (λ s o i. 0) b d ≡ 0
+  unfolding locks_of
+  locks_nothing b zero = refl
+  locks_nothing b (suc d) = ap (bit_or 0) (locks_nothing b d)
+
+  -- Their own locks, or none.
+  pub locks_unless : (none : Bool) (b d : ℕ) → locks_of table ms (λ s o i. cond none 0 s.mask) b d ≡ cond none 0 (owned_marks table ms b d)
+  locks_unless true b d = locks_nothing b d
+  locks_unless false b d = refl
+
   pub locks_none : (f : Step → ℕ → ℕ → ℕ) (b : ℕ) → locks_of table ms f b 0 ≡ 0
   unfolding locks_of
   locks_none f b = refl

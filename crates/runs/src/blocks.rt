@@ -4,7 +4,7 @@ ghost use Rattle.runs.specs.Flat.{nil_mark, first_mark, level_inside, guard_mark
 ghost use Rattle.runs.specs.Blocks.{Lie};
 ghost use Rattle.survey.specs.Stretches.{has_bit};
 ghost use Rattle.model.specs.Levels.{is_open as level_open};
-ghost use Rattle.runs.specs.Statuses.{locks_of, owned_marks, reserved_marks, held_one, against_first};
+ghost use Rattle.runs.specs.Statuses.{locks_of, reserved_one, held_one, against_first};
 
 use crate::stack::Stack;
 use crate::{Cell, Core, Mark, Place, Turn};
@@ -99,11 +99,13 @@ fn guard_of<K: Lattice>(table: &[Step], marks: &[Mark], blocks: Stack, x: u8, fr
     all
 }
 
-// A variable whose bit the mask has, its level joined with `level`.
+// A variable whose bit the mask has, its level joined with `level`. It is below 64, so its bit is looked at without the test of `bit`:
+// this is done for each variable at each if.
 fn raise_cell<K: Lattice>(cell: Cell, mask: u64, x: u8, level: u32) -> Cell
+    requires { x < 64 }
     ensures { result ≡ raised_cell K.order mask level x cell }
 {
-    if bit(mask, x) {
+    if (mask >> x) % 2 == 1 {
         Cell {
             level: K::join(cell.level, level),
             ..cell
@@ -114,7 +116,7 @@ fn raise_cell<K: Lattice>(cell: Cell, mask: u64, x: u8, level: u32) -> Cell
 }
 
 // The locks that open blocks give together. What one of them gives goes by its step, and by the levels outside and inside it.
-fn locks<F: Fn(Step, u32, u32) -> u16>(
+fn locks<F: Fn(&Step, u32, u32) -> u16>(
     table: &[Step],
     marks: &[Mark],
     blocks: Stack,
@@ -122,52 +124,45 @@ fn locks<F: Fn(Step, u32, u32) -> u16>(
 ) -> u16
     requires lie { Lie table.now marks.now blocks }
     requires given { F.IsAlwaysCallable given }
-    ensures { (f : Step → ℕ → ℕ → ℕ) → ((s : Step) (o i r : ℕ) → F.post given s o i r → r ≡ f s o i) → result ≡ locks_of table.now marks.now f blocks.base blocks.held }
+    ensures { (f : Step → ℕ → ℕ → ℕ) → ((s : _) (o i r : ℕ) → F.post given s o i r → r ≡ f s.now o i) → result ≡ locks_of table.now marks.now f blocks.base blocks.held }
 {
     let mut all = 0;
     let mut outside = OPEN;
     for mark in blocks.items(marks) {
-        all |= given(table[mark.opener as usize], outside, mark.level);
+        all |= given(&table[mark.opener as usize], outside, mark.level);
         outside = mark.level;
     }
     all
 }
 
-// The locks of open blocks themselves.
-fn owned(table: &[Step], marks: &[Mark], blocks: Stack) -> u16
-    requires { Lie table.now marks.now blocks }
-    ensures { result ≡ owned_marks table.now marks.now blocks.base blocks.held }
+// The locks that a block reserves: those that either way names, if it is the outermost of a level that is not open.
+fn reserved(step: &Step, outside: u32, inside: u32) -> u16
+    ensures { result ≡ reserved_one step.now outside inside }
 {
-    locks(table, marks, blocks, |step, _, _| step.mask)
+    if is_open(outside) && !is_open(inside) {
+        step.needed
+    } else {
+        0
+    }
 }
 
-// The locks that they reserve: each those that either way names, if it is the outermost of a level that is not open.
-fn reserved(table: &[Step], marks: &[Mark], blocks: Stack) -> u16
-    requires { Lie table.now marks.now blocks }
-    ensures { result ≡ reserved_marks table.now marks.now blocks.base blocks.held }
-{
-    locks(table, marks, blocks, |step, outside, inside| {
-        if is_open(outside) && !is_open(inside) {
-            step.needed
-        } else {
-            0
-        }
-    })
-}
-
-// The locks that thread j holds against thread i.
+// The locks that thread j holds against thread i: those of its open blocks, but not against itself, and those that they reserve. One
+// walk over the blocks gives both.
 fn held(table: &[Step], marks: &[Mark], i: u8, j: usize, p: Place) -> u16
     requires thread { j < 8 }
     requires lie { Lie table.now marks.now (record { base = first_mark j; held = p.depth }) }
     ensures { result ≡ held_one table.now marks.now i j p }
 {
-    let blocks = open_blocks(j, p.depth);
-    let own = if j == i as usize {
-        0
-    } else {
-        owned(table, marks, blocks)
-    };
-    own | reserved(table, marks, blocks)
+    let itself = j == i as usize;
+    locks(
+        table,
+        marks,
+        open_blocks(j, p.depth),
+        |step, outside, inside| {
+            let own = if itself { 0 } else { step.mask };
+            own | reserved(step, outside, inside)
+        },
+    )
 }
 
 impl Core {

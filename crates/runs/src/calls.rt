@@ -22,10 +22,10 @@ use survey::Step;
 
 // Track or channel h, of n whose parts lie in a slab of so many slots: NoState where the slab is too short for their parts, NoSuch where
 // there is none.
-fn port_in(ports: [Port; 8], n: u8, slots: usize, h: u8) -> Result<Port, RunFault>
+fn port_in(ports: &[Port; 8], n: u8, slots: usize, h: u8) -> Result<Port, RunFault>
     requires few { n ≤ 8 }
-    requires small { room ports n ≤ 2048 }
-    ensures { MatchResult result (PortIn ports n slots h) (NoPort ports n slots h) }
+    requires small { room ports.now n ≤ 2048 }
+    ensures { MatchResult result (PortIn ports.now n slots h) (NoPort ports.now n slots h) }
 {
     if slots < room_of(ports, n) {
         return Err(RunFault::NoState);
@@ -43,7 +43,7 @@ impl Core {
         requires { Small self.now }
         ensures { MatchResult result (PortIn self.now.tracks self.now.head.tracks slots h) (NoPort self.now.tracks self.now.head.tracks slots h) }
     {
-        port_in(self.tracks, self.head.tracks, slots, h)
+        port_in(&self.tracks, self.head.tracks, slots, h)
     }
 
     // Channel h, where the slab of entries does.
@@ -51,7 +51,7 @@ impl Core {
         requires { Small self.now }
         ensures { MatchResult result (PortIn self.now.channels self.now.head.channels slots h) (NoPort self.now.channels self.now.head.channels slots h) }
     {
-        port_in(self.channels, self.head.channels, slots, h)
+        port_in(&self.channels, self.head.channels, slots, h)
     }
 }
 

@@ -11,10 +11,10 @@ use survey::{Step, tabulate};
 
 // How many samples or entries the first n tracks or channels hold together. It takes the array and n, as the functions below and those
 // that fill an array do: a slice is no plainer, since all that is stated of them is stated of the array and n.
-pub(crate) fn room_of(ports: [Port; 8], n: u8) -> usize
+pub(crate) fn room_of(ports: &[Port; 8], n: u8) -> usize
     requires few { n ≤ 8 }
-    requires small { room ports n ≤ 2048 }
-    ensures { result ≡ room ports n }
+    requires small { room ports.now n ≤ 2048 }
+    ensures { result ≡ room ports.now n }
 {
     ports[..n as usize].iter().map(|port| port.size).sum()
 }
@@ -36,8 +36,8 @@ impl Core {
         requires { Small self.now }
         ensures { result ≡ is_long_enough self.now samples entries marks }
     {
-        room_of(self.tracks, self.head.tracks) <= samples
-            && room_of(self.channels, self.head.channels) <= entries
+        room_of(&self.tracks, self.head.tracks) <= samples
+            && room_of(&self.channels, self.head.channels) <= entries
             && MARKS <= marks
     }
 

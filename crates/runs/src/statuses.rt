@@ -51,10 +51,10 @@ impl Core {
         let level = K::join(here, self.level::<K>(inputs.expression(t.step)));
         let closed = !is_open(level);
         Status::chosen(
-            !t.step.fixed & closed,
+            !t.step.fixed && closed,
             is_open(here)
-                & closed
-                & (t.step.needed & self.against(t.thread, inputs.table, marks) != 0),
+                && closed
+                && t.step.needed & self.against(t.thread, inputs.table, marks) != 0,
         )
     }
 
@@ -77,7 +77,7 @@ impl Core {
         Status::chosen(
             !is_open(self.level::<K>(bytes)),
             is_open(here)
-                & (zero | (t.step.mask & self.against(t.thread, inputs.table, marks) != 0)),
+                & (zero || t.step.mask & self.against(t.thread, inputs.table, marks) != 0),
         )
     }
 

@@ -136,7 +136,8 @@ impl Core {
     {
         match op {
             Op::Variable(x) => K::join(from, self.cells[x as usize].level),
-            Op::Sample(t) | Op::Held(t) => K::join(from, self.tracks[t as usize].level),
+            Op::Sample(t) => K::join(from, self.tracks[t as usize].level),
+            Op::Held(t) => K::join(from, self.tracks[t as usize].level),
             Op::Constant(_) | Op::Two(_) | Op::One(_) => from,
         }
     }

@@ -92,6 +92,10 @@ fn next_slot<K: Lattice>(state: State, slot: &[u8; SLOT]) -> Option<State>
 pub fn holds<K: Lattice>(slab: &[u8]) -> Option<Declarations>
     ensures { HoldsGives K.kind K.order slab.now result }
 {
+    // Told before anything is looked at, so that a refusal for length costs nothing.
+    if slab.len() < SLAB {
+        return None;
+    }
     let mut state = State::at_first();
     while !state.ended() {
         state = next_slot::<K>(state, slot_in(slab, state.frames)?)?;

@@ -1,10 +1,11 @@
 // Reads a script and run lines from standard input, runs the script under the monitor, and writes what the run lines asked for.
 #![tactic(auto)]
 
+use crate::input::read_input;
 use crate::session::respond;
-use protocol::intake::read_input;
 use std::io::Write;
 
+mod input;
 mod session;
 mod slabs;
 mod stop;

@@ -121,7 +121,7 @@ impl<K: Lattice, S: Scheduler + Drop> Session<'_, K, S> {
     }
 
     // Makes the call that a line asks for, and tells what it gave.
-    fn answer(&mut self, line: Line) -> Result<(), Stop>
+    fn answer(&mut self, line: Line<'_>) -> Result<(), Stop>
         requires { IfOk line.bytes Padded }
     {
         let number = line.number;

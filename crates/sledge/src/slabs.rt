@@ -46,7 +46,8 @@ impl Slabs {
         accepted: &Accepted<K>,
         scheduler: S,
     ) -> Result<Run<K, S>, RunFault>
-        ensures { MatchResult result (λ run. Made K.kind K.order self.old.script.items self.old.samples.items self.new.samples.items self.old.entries.items self.new.entries.items self.old.marks.items self.new.marks.items scheduler run.core run.scheduler) (NotMade K.kind K.order self.old.script.items self.old.samples.items self.new.samples.items self.old.entries.items self.new.entries.items self.old.marks.items self.new.marks.items) }
+        ensures run { MatchResult result (λ run. Made K.kind K.order self.old.script.items self.old.samples.items self.new.samples.items self.old.entries.items self.new.entries.items self.old.marks.items self.new.marks.items scheduler run.core run.scheduler) (NotMade K.kind K.order self.old.script.items self.old.samples.items self.new.samples.items self.old.entries.items self.new.entries.items self.old.marks.items self.new.marks.items) }
+        ensures rest { (self.new.script ≡ self.old.script) × (self.new.work ≡ self.old.work) }
     {
         Run::make(
             accepted,
@@ -65,7 +66,8 @@ impl Slabs {
         track: u8,
         sample: i32,
     ) -> Result<u16, RunFault>
-        ensures { Feeds K.kind K.order S.meaning track sample run.old.core run.old.scheduler self.old.samples.items run.new.core run.new.scheduler self.new.samples.items result }
+        ensures fed { Feeds K.kind K.order S.meaning track sample run.old.core run.old.scheduler self.old.samples.items run.new.core run.new.scheduler self.new.samples.items result }
+        ensures rest { ((self.new.script ≡ self.old.script) × (self.new.entries ≡ self.old.entries)) × ((self.new.marks ≡ self.old.marks) × (self.new.work ≡ self.old.work)) }
     {
         run.feed(track, sample, &mut self.samples)
     }

@@ -7,4 +7,4 @@ use Rattle.runs.proofs.blocks.locks.Given as goal
 abbrev pub invariant-loop-mark : goal.invariant-loop-mark
 invariant-loop-mark g l =
     (l.outside ≡ level_inside l.marks l.fn.blocks.base l.mark-index)
-    × ((f : Step → ℕ → ℕ → ℕ) → ((s : Step) (o i r : ℕ) → goal.F-post g l.given s o i r → r ≡ f s o i) → l.all ≡ locks_of l.table l.marks f l.fn.blocks.base l.mark-index)
+    × ((f : Step → ℕ → ℕ → ℕ) → ((s : _) (o i r : ℕ) → goal.F-post g l.given s o i r → r ≡ f s.now o i) → l.all ≡ locks_of l.table l.marks f l.fn.blocks.base l.mark-index)

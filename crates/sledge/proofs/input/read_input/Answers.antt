@@ -1,5 +1,5 @@
 use Rattle.protocol.proofs.Reading.{within_limit}
-use Rattle.protocol.proofs.intake.read_input.Goals as goal
+use Rattle.sledge.proofs.input.read_input.Goals as goal
 
 pub returns : goal.returns
 returns g c =
