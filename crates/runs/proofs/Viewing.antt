@@ -14,7 +14,7 @@ use Rattle.script.specs.Trees.{head_of, script_frames, ValidScript}
 use Rattle.script.proofs.Framing.{frame_held}
 use Rattle.script.proofs.Unique.{one_tree}
 use Rattle.model.specs.Levels.{all_had, Levelled}
-use Rattle.model.specs.Machine.{State, advance, rules, ready_set, take_turn, all_finished, most_turns}
+use Rattle.model.specs.Machine.{State, Rules, advance, rules, ready_set, take_turn, all_finished, most_turns}
 use Rattle.model.specs.Threads.{Open, Thread, context, ended, Pace as ModelPace}
 use Rattle.model.specs.Threads.Pace.{running, idling}
 use Rattle.model.specs.Fitting.{AllAccounts, CodedRun, behind_thread, contexts, frame_at, is_thread_end}
@@ -300,6 +300,18 @@ module _ (k : Levels) (sc : Script) (lawful : Lawful k) (codes : Levelled k sc) 
       go : (b : Bool) (later : ℕ × State × S) → CodedRun k later.1 → CodedRun k (cond {A = ℕ × State × S} b (0, s, g) (suc later.0, later.1, later.2)).1
       go true later x = h
       go false later x = x
+
+-- No more turns are given than were asked for.
+pub at_most : (r : Rules) {S : Type 0} (schedule : Meaning S) (n : ℕ) (s : State) (g : S) → (advance r schedule n s g).0 ≤ n
+at_most r schedule zero s g = omega arith
+at_most r {S} schedule (suc n) s g =
+    let told = schedule g (ready_set r s) in
+    let next = take_turn r s told.0 in
+    go (all_finished r s || eqb s.turns most_turns) (advance r schedule n next told.1) (at_most r schedule n next told.1)
+  where
+    go : (b : Bool) (later : ℕ × State × S) → later.0 ≤ n → (cond {A = ℕ × State × S} b (0, s, g) (suc later.0, later.1, later.2)).0 ≤ suc n
+    go true later x = omega arith
+    go false later x = omega arith
 
 -- Memory stands for one state only
 
